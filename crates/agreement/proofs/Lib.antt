@@ -1,0 +1,3 @@
+-- The parts agree.
+pub mod RowLaws
+pub mod SafeLaws

@@ -1,0 +1,1 @@
+-- Nothing of its own: the theorems speak of what the parts define.

@@ -1,0 +1,1 @@
+// What ties search, judge and replay together. Laws only; there is no code.

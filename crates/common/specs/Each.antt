@@ -1,0 +1,6 @@
+-- What holds of each element of a list.
+use mathlib.Core.List.{List, [], _∷_}
+
+abbrev pub Each : {A : Type 0} → (A → Type 0) → List A → Type 0
+Each P [] = Unit {0}
+Each P (x ∷ l) = P x × Each P l

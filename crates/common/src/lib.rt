@@ -1,0 +1,1 @@
+// What the models of several crates share: choices and tests. Definitions in specs/, their laws in proofs/; there is no code.

@@ -1,0 +1,3 @@
+-- What the search finds, over any kind of rows.
+pub mod TestLaws
+pub mod WalkLaws

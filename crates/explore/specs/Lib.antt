@@ -1,0 +1,3 @@
+-- The search over any kind of rows.
+pub mod Frame
+pub mod Search

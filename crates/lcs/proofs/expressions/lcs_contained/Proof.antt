@@ -1,0 +1,38 @@
+use mathlib.Core.Path.{_≡_}
+use Rattle.lcs.proofs.ExpressionLaws.{contained-first, contained-second, contained-yes, contained-no}
+use borrow.Author.Needs.{needs}
+use Rattle.lcs.proofs.expressions.lcs_contained.Statement.{statement}
+use Rattle.lcs.proofs.expressions.lcs_contained.Tie as tie
+
+is-product-requires : tie.Need-is-product-requires
+is-product-requires c κs = search needs
+
+is-product-requires-2 : tie.Need-is-product-requires-2
+is-product-requires-2 c κs = search needs
+
+contained-at-requires : tie.Need-contained-at-requires
+contained-at-requires c κs = search needs
+
+returns : tie.Need-returns
+returns c = contained-yes _ _ (cc) (cc) (cc)
+
+returns-2 : tie.Need-returns-2
+returns-2 c = contained-no _ _ (cc) (cc) (cc)
+
+returns-3 : tie.Need-returns-3
+returns-3 c = contained-second _ _ (cc) (cc)
+
+returns-4 : tie.Need-returns-4
+returns-4 c = contained-first _ _ (cc)
+
+pub lcs-contained-spec : {M : Type 1} → statement M
+lcs-contained-spec =
+    tie.close
+    (tie.spec
+    is-product-requires
+    is-product-requires-2
+    contained-at-requires
+    returns
+    returns-2
+    returns-3
+    returns-4)

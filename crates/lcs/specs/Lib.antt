@@ -1,0 +1,3 @@
+-- What the C functions answer and leave in lent memory: one definition each, so that there is one possible answer.
+pub mod Expressions
+pub mod Tables

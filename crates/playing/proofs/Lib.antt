@@ -1,0 +1,2 @@
+-- What played words mean.
+pub mod PlayLaws

@@ -1,0 +1,2 @@
+-- Run words and how they are played.
+pub mod Play

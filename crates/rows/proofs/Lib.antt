@@ -1,0 +1,4 @@
+-- The laws of rows and outcomes.
+pub mod CoverLaws
+pub mod OutcomeLaws
+pub mod RowOfLaws

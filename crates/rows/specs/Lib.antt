@@ -1,0 +1,3 @@
+-- Rows of masks.
+pub mod Rows
+pub mod Outcomes

@@ -1,0 +1,44 @@
+-- A frame that passes says that the payload is there; the answer is the frame's or the field's.
+use borrow.Author.Needs.{needs}
+use mathlib.Core.Path.{sym, _∙_}
+use Rattle.table.proofs.RecordLaws.{framed-there, framed-fits}
+use Rattle.table.proofs.StepLaws.{bad-unframed, bad-field}
+use Rattle.table.proofs.checks.bad_step.Statement.{statement}
+use Rattle.table.proofs.checks.bad_step.Tie as tie
+
+framed-at-requires : tie.Need-framed-at-requires
+framed-at-requires c κs = search needs
+
+enum-known-fault : tie.Need-enum-known-fault
+enum-known-fault c = search needs
+
+returns : tie.Need-returns
+returns c = bad-unframed _ _ _ _ _ (cc)
+
+enum-told : tie.Need-enum-told
+enum-told c = search needs
+
+part-of-requires : tie.Need-part-of-requires
+part-of-requires c κs = framed-there _ _ _ _ (sym (c .before .before .framed-at .ensures) ∙ c .enum-told .given .1)
+
+number-at-requires : tie.Need-number-at-requires
+number-at-requires c κs = framed-fits _ _ _ 3 _ (cc) (c .part-of .ensures)
+
+bad-fields-requires : tie.Need-bad-fields-requires
+bad-fields-requires c κs = search needs
+
+returns-2 : tie.Need-returns-2
+returns-2 c = bad-field _ _ _ _ (cc) (cc)
+
+pub bad-step-spec : {M : Type 1} → statement M
+bad-step-spec =
+    tie.close
+    (tie.spec
+    framed-at-requires
+    enum-known-fault
+    returns
+    enum-told
+    part-of-requires
+    number-at-requires
+    bad-fields-requires
+    returns-2)

@@ -1,0 +1,37 @@
+-- The numbers stand at the transition's fixed place.
+use borrow.Author.Needs.{needs}
+use native.Mathlib.Omega.{arith}
+use Rattle.table.proofs.RecordLaws.{part-fits}
+use Rattle.table.specs.Transitions.{transitionAt}
+use Rattle.table.proofs.transitions.transition_at.Statement.{statement}
+use Rattle.table.proofs.transitions.transition_at.Tie as tie
+
+mul-part-of : tie.Need-mul-part-of
+mul-part-of c = search needs
+
+add-part-of : tie.Need-add-part-of
+add-part-of c = search needs
+
+part-of-requires : tie.Need-part-of-requires
+part-of-requires c κs = search needs
+
+entry-of-requires : tie.Need-entry-of-requires
+entry-of-requires c κs = part-fits _ _ _ _ (c .part-of .ensures) (omega arith)
+
+operation-from-requires : tie.Need-operation-from-requires
+operation-from-requires c κs = search needs
+
+returns : tie.Need-returns
+unfolding transitionAt
+returns c = cc
+
+pub transition-at-spec : {M : Type 1} → statement M
+transition-at-spec =
+    tie.close
+    (tie.spec
+    mul-part-of
+    add-part-of
+    part-of-requires
+    entry-of-requires
+    operation-from-requires
+    returns)
