@@ -1,11 +1,19 @@
--- What holds of each element: of a part of the list, of two lists joined, of each one that is weaker.
+-- What holds of each element: of the one at a place, of a part of the list, of two lists joined, of each one that is weaker.
+use mathlib.Core.Path.{subst}
 use mathlib.Core.List.{List, [], _∷_, _++_}
+use mathlib.Core.Option.{Option·none-ne-some, Option·some-injective}
 use Prim.Native.Nat.{ℕ, zero, suc, _≤_}
 use lib.ListN.{take, drop}
 use Rattle.common.specs.Each.{Each}
 use Rattle.common.specs.Part.{part}
+use Rattle.common.proofs.AtLaws.{At}
 
 module _ {A : Type 0} (P : A → Type 0) where
+  pub each-at : (l : List A) (n : ℕ) (e : A) → Each P l → At l n e → P e
+  each-at [] n e h k = absurd (Option·none-ne-some e k)
+  each-at (x ∷ l) zero e h k = subst P (Option·some-injective _ _ k) (h .0)
+  each-at (x ∷ l) (suc n) e h k = each-at l n e (h .1) k
+
   pub each-take : (n : ℕ) (l : List A) → Each P l → Each P (take n l)
   each-take zero l h = tt
   each-take (suc n) [] h = tt

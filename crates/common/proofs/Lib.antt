@@ -1,8 +1,10 @@
 -- The laws that several crates share.
 pub mod BoolLaws
 pub mod ChoiceLaws
-pub mod PartLaws
-pub mod EachLaws
-pub mod FrontLaws
 pub mod AtLaws
+pub mod EachLaws
+pub mod PartLaws
+pub mod FrontLaws
 pub mod FirstLaws
+pub mod StoreLaws
+pub mod StandLaws

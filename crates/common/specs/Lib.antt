@@ -4,4 +4,5 @@ pub mod Each
 pub mod First
 pub mod Part
 pub mod Front
+pub mod Store
 pub mod Refusal

@@ -9,8 +9,8 @@ use native.Mathlib.Omega.{arith}
 use lib.Dec.{ltb}
 use borrow.Author.Tests.{ltb-true, ltb-false}
 use Rattle.common.proofs.BoolLaws.{either}
+use Rattle.common.proofs.FirstLaws.{in-iff}
 use Rattle.table.specs.Systems.{GoodTable, badAt, badsOf, badState, systemOf}
-use Rattle.table.proofs.ListingLaws.{within-member, member-within, absent}
 use Rattle.table.proofs.GoodLaws.{bad-rises}
 use Rattle.table.proofs.SystemLaws.{bads-are, bad-member}
 use Rattle.table.specs.declared.checks.Shape.{Shape}
@@ -30,16 +30,19 @@ module _ (t : List ℕ) (s : Shape) (g : GoodTable t s) (x : ℕ) where
   pub bad-exactly : (badState t s x ≡ true) ↔ List·Memᴰ x ((systemOf t) .bad)
   unfolding badState
   bad-exactly = (
-    (λ h. rw (bads-are t s g) (within-member x (badsOf t s) h)),
-    (λ h. member-within (rw (bads-are t s g) at h)),
+    (λ h. rw (bads-are t s g) (in-iff x (badsOf t s) .0 h)),
+    (λ h. in-iff x (badsOf t s) .1 (rw (bads-are t s g) at h)),
   )
 
   pub bad-here : (i : ℕ) → badAt t s i ≡ x → i < s .bads → badState t s x ≡ true
   bad-here i e l = bad-exactly .1 (bad-member t s g x .1 (i, l, sym e))
 
   pub bad-nowhere : ((i : ℕ) → i < s .bads → badAt t s i ≡ x → ⊥) → badState t s x ≡ false
-  unfolding badState
-  bad-nowhere n = absent x (badsOf t s) (λ h. let i = bad-member t s g x .0 (rw (bads-are t s g) h) in n (i .0) (i .1) (sym (i .2)))
+  bad-nowhere n = go (either (badState t s x))
+    where
+      go : (badState t s x ≡ true) ⊎ (badState t s x ≡ false) → badState t s x ≡ false
+      go (inl e) = let i = bad-member t s g x .0 (bad-exactly .0 e) in absurd (n (i .0) (i .1) (sym (i .2)))
+      go (inr e) = e
 
   module _ {low high : ℕ} (w : Halving t s x low high) where
     pub halving-end : high ≤ low → false ≡ badState t s x

@@ -1,6 +1,6 @@
--- Listed values: how many, which, and the search among them.
+-- Listed values: how many, and which.
 use mathlib.Core.Path.{_≡_, refl, ap, sym, _∙_}
-use mathlib.Core.Bool.{Bool, true, false, true≢false}
+use mathlib.Core.Bool.{Bool, true, false}
 use mathlib.Core.Option.{some}
 use mathlib.Core.Logic.{_⊎_, inl, inr}
 use mathlib.Core.List.{List, [], _∷_, List·Memᴰ, List·Memᴰ·head, List·Memᴰ·tail, List·Memᴰ·not-nil, List·Memᴰ·cases-cons}
@@ -9,9 +9,7 @@ use native.Mathlib.Omega.{arith}
 use lib.ListN.{length, getElem?}
 use lib.Dec.{eqb}
 use borrow.Author.Tests.{eqb-true, eqb-false}
-use Rattle.common.proofs.BoolLaws.{either}
-use Rattle.common.proofs.ChoiceLaws.{eq-then, eq-cases}
-use Rattle.table.specs.Listing.{listed, within}
+use Rattle.table.specs.Listing.{listed}
 
 module _ {A : Type 0} (f : ℕ → A) where
   pub listed-length : (k i : ℕ) → length (listed f k i) ≡ k
@@ -48,38 +46,3 @@ module _ {A : Type 0} (f : ℕ → A) where
       go later false e =
           let n : i ≡ j → ⊥ = eqb-false i j e in
           List·Memᴰ·tail (later (omega arith) (omega arith))
-
--- The search finds what is there, and nothing else.
-pub within-member : (x : ℕ) (l : List ℕ) → within x l ≡ true → List·Memᴰ x l
-unfolding within
-within-member x [] e = absurd (true≢false (sym e))
-within-member x (b ∷ l) e = go (within-member x l) (eq-cases _ _ _ _ e)
-  where
-    go : (within x l ≡ true → List·Memᴰ x l) → ((b ≡ x) × (true ≡ true)) ⊎ ((b ≡ x → ⊥) × (within x l ≡ true)) → List·Memᴰ x (b ∷ l)
-    go later (inl h) = List·Memᴰ·head (sym (h .0))
-    go later (inr h) = List·Memᴰ·tail (later (h .1))
-
--- One step of the search.
-within-head : (x b : ℕ) (l : List ℕ) → b ≡ x → within x (b ∷ l) ≡ true
-unfolding within
-within-head x b l e = sym (eq-then _ _ _ _ e refl)
-
-within-tail : (x b : ℕ) (l : List ℕ) → within x l ≡ true → within x (b ∷ l) ≡ true
-unfolding within
-within-tail x b l h = go (eq-cases _ _ _ _ refl)
-  where
-    go : ((b ≡ x) × (true ≡ within x (b ∷ l))) ⊎ ((b ≡ x → ⊥) × (within x l ≡ within x (b ∷ l))) → within x (b ∷ l) ≡ true
-    go (inl e) = sym (e .1)
-    go (inr e) = sym (e .1) ∙ h
-
-pub member-within : {x : ℕ} {l : List ℕ} → List·Memᴰ x l → within x l ≡ true
-member-within (List·Memᴰ·head e) = within-head _ _ _ (sym e)
-member-within (List·Memᴰ·tail m) = within-tail _ _ _ (member-within m)
-
--- What is not there is not found.
-pub absent : (x : ℕ) (l : List ℕ) → (List·Memᴰ x l → ⊥) → within x l ≡ false
-absent x l n = go (either (within x l))
-  where
-    go : (within x l ≡ true) ⊎ (within x l ≡ false) → within x l ≡ false
-    go (inl e) = absurd (n (within-member x l e))
-    go (inr e) = e

@@ -3,12 +3,13 @@ use mathlib.Core.Path.{_≡_}
 use mathlib.Core.Bool.{Bool}
 use mathlib.Core.List.{List, []}
 use Prim.Native.Nat.{ℕ}
+use Rattle.common.specs.First.{isIn}
 use Rattle.meaning.specs.Systems.{System, Move}
 use Rattle.table.specs.Bytes.{numberAt}
 use Rattle.table.specs.Records.{partOf}
 use Rattle.table.specs.Checking.{badPlace, checkTable}
 use Rattle.table.specs.Transitions.{transitionAt, moveOf}
-use Rattle.table.specs.Listing.{listed, within}
+use Rattle.table.specs.Listing.{listed}
 use Rattle.table.specs.declared.checks.Shape.{Shape}
 use Rattle.table.specs.declared.checks.Checked.{Checked}
 use Rattle.table.specs.declared.checks.Checked.the-variants.{Good, Refused}
@@ -31,7 +32,7 @@ badsOf t s = listed (badAt t s) (s .bads) 0
 
 -- Whether a state is bad: the search for it in the list of the bad states.
 unfoldable pub badState : List ℕ → Shape → ℕ → Bool
-badState t s x = within x (badsOf t s)
+badState t s x = isIn x (badsOf t s)
 
 -- The system of a table with that shape.
 abbrev pub systemWith : List ℕ → Shape → System

@@ -1,0 +1,4 @@
+-- The laws of the search.
+pub mod OutcomeLaws
+pub mod LookLaws
+pub mod ChangeLaws

@@ -1,0 +1,4 @@
+-- Rows in lent words.
+pub mod Layout
+pub mod Append
+pub mod Room
