@@ -30,6 +30,11 @@ module _ {A : Type 0} where
   at-past (x ∷ l) zero h = absurd (Option·none-ne-some x (sym h))
   at-past (x ∷ l) (suc n) h = let k = at-past l n h in omega arith
 
+  pub past-at : (l : List A) (n : ℕ) → length l ≤ n → getElem? l n ≡ none
+  past-at [] n h = refl
+  past-at (x ∷ l) zero h = absurd (omega arith)
+  past-at (x ∷ l) (suc n) h = past-at l n (omega arith)
+
   -- What stands there still stands there when the list has grown.
   pub at-grown : (l t : List A) (n : ℕ) (e : A) → At l n e → At (l ++ t) n e
   at-grown [] t n e h = absurd (Option·none-ne-some e h)

@@ -1,5 +1,5 @@
 -- What holds of each element: of the one at a place, of a part of the list, of two lists joined, of each one that is weaker.
-use mathlib.Core.Path.{subst}
+use mathlib.Core.Path.{refl, subst}
 use mathlib.Core.List.{List, [], _∷_, _++_}
 use mathlib.Core.Option.{Option·none-ne-some, Option·some-injective}
 use Prim.Native.Nat.{ℕ, zero, suc, _≤_}
@@ -13,6 +13,10 @@ module _ {A : Type 0} (P : A → Type 0) where
   each-at [] n e h k = absurd (Option·none-ne-some e k)
   each-at (x ∷ l) zero e h k = subst P (Option·some-injective _ _ k) (h .0)
   each-at (x ∷ l) (suc n) e h k = each-at l n e (h .1) k
+
+  pub at-each : (l : List A) → ((n : ℕ) (e : A) → At l n e → P e) → Each P l
+  at-each [] f = tt
+  at-each (x ∷ l) f = (f zero x refl, at-each l (λ n e h. f (suc n) e h))
 
   pub each-take : (n : ℕ) (l : List A) → Each P l → Each P (take n l)
   each-take zero l h = tt

@@ -5,7 +5,7 @@ use Prim.Native.Nat.{ℕ, suc, _+_, _-_, _<_, _≤_}
 use native.Mathlib.Numerals.{add-one}
 use native.Mathlib.Omega.{arith}
 use lib.ListN.{length, getD, drop, set, length-append, length-drop, length-set}
-use lib.Seq.{drop-cons, set-append-seam, getD-append-add, getD-drop, take-at}
+use lib.Seq.{drop-cons, drop-append-seam, set-append-seam, getD-append-add, getD-drop, take-at}
 use Rattle.common.specs.Front.{front}
 use Rattle.common.specs.Part.{part}
 use Rattle.common.proofs.PartLaws.{part-none, part-snoc, part-length, part-take}
@@ -17,6 +17,15 @@ front-none l = refl
 pub front-length : (xs l : List ℕ) → length xs ≤ length l → length (front xs l) ≡ length l
 unfolding front
 front-length xs l h = length-append xs (drop (length xs) l) ∙ omega (arith, length-drop (length xs) l)
+
+-- What stands behind the places that are written is as it was, so writing them again changes nothing.
+pub front-behind : (xs l : List ℕ) → drop (length xs) (front xs l) ≡ drop (length xs) l
+unfolding front
+front-behind xs l = drop-append-seam xs (drop (length xs) l)
+
+pub front-again : (xs l : List ℕ) → front xs (front xs l) ≡ front xs l
+unfolding front
+front-again xs l = ap (λ (r : List ℕ). xs ++ r) (drop-append-seam xs (drop (length xs) l))
 
 -- One place more.
 pub front-next : (xs l : List ℕ) (x : ℕ) → length xs < length l → set (front xs l) (length xs) x ≡ front (xs ++ (x ∷ [])) l

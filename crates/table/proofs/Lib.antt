@@ -13,6 +13,7 @@ pub mod GoodLaws
 pub mod SystemLaws
 pub mod BadLaws
 pub mod WalkLaws
+mod PromiseLaws
 mod ReaderLaws
 pub mod AnswerLaws
 pub mod Examples

@@ -92,13 +92,6 @@ framed-passes t at kind size h =
     let d = below-fails no-pass _ _ _ (c .1) in
     record { kind-is = b .0; size-is = c .0; there = d .0 }
 
--- The bytes of a payload whose frame passes are there.
-pub framed-there : (t : List ℕ) (at kind size : ℕ) → framedAt t at kind size ≡ Passes → at + 4 + size ≤ length t
-framed-there t at kind size h = framed-passes t at kind size h .there
-
-pub framed-fits : (p t : List ℕ) (at kind size : ℕ) → framedAt t at kind size ≡ Passes → p ≡ partOf t at size → size ≤ length p
-framed-fits p t at kind size h e = part-fits p t at size e (framed-there t at kind size h)
-
 -- A record whose frame passes is whole, and the next stands behind its payload.
 pub framed-whole : (t : List ℕ) (at kind size : ℕ) → Framed t at kind size → Whole kind size (at + 4 + size) ≡ recordAt t at
 unfolding recordAt
@@ -107,6 +100,15 @@ framed-whole t at kind size f =
     let s = f .size-is in
     let h : at + 4 + size ≤ length t = f .there in
     rw (k, s) (lt-else _ _ _ _ (omega arith) (lt-else _ _ _ _ h refl))
+
+-- Its payload is the part of the frame's size, which has as many bytes.
+pub framed-payload : (t : List ℕ) (at kind size : ℕ) → framedAt t at kind size ≡ Passes → payloadAt t at ≡ partOf t at size
+framed-payload t at kind size h =
+    sym (payload-whole _ t at kind size _ (framed-whole t at kind size (framed-passes t at kind size h)) refl)
+
+pub framed-fits : (p t : List ℕ) (at kind size : ℕ) → framedAt t at kind size ≡ Passes → p ≡ payloadAt t at → size ≤ length p
+framed-fits p t at kind size h e =
+    part-fits p t at size (e ∙ framed-payload t at kind size h) (framed-passes t at kind size h .there)
 
 -- Where the frame passes, the kind is the frame's.
 pub framed-kind : (t : List ℕ) (at kind size : ℕ) → Framed t at kind size → kindAt t at ≡ kind

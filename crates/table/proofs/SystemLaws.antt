@@ -3,15 +3,16 @@ use mathlib.Core.Path.{_≡_, ap, sym, _∙_, subst}
 use mathlib.Core.List.{List, List·Memᴰ, Memᴰ·cast}
 use mathlib.Core.Logic.{_↔_}
 use mathlib.Core.Option.{some}
-use Prim.Native.Nat.{ℕ, _+_, _<_}
+use Prim.Native.Nat.{ℕ, _+_, _<_, _≤_}
 use native.Mathlib.Omega.{arith}
 use lib.ListN.{length, getElem?}
-use Rattle.meaning.specs.Systems.{System, Move, MoveOf, WellMade}
-use Rattle.table.specs.Transitions.{transitionAt, moveOf}
+use Rattle.meaning.specs.Systems.{Operation, quiet, send, receive, System, Move, MoveOf, WellMade, Ranged}
+use Rattle.table.specs.Transitions.{transitionAt, operationOf, moveOf}
 use Rattle.table.specs.Systems.{GoodTable, badAt, movesOf, badsOf, systemWith, systemFrom, systemOf}
 use Rattle.table.proofs.ListingLaws.{listed-length, listed-at, listed-member, member-listed}
 use Rattle.table.proofs.GoodLaws.{ranges, entry-ranges, bad-range}
 use Rattle.table.specs.declared.checks.Shape.{Shape}
+use Rattle.table.specs.declared.transitions.Transition.{Transition}
 
 module _ (t : List ℕ) (s : Shape) where
   -- What transition i is, as a move.
@@ -30,6 +31,12 @@ module _ (t : List ℕ) (s : Shape) where
     (λ h. let l = listed-member (badAt t s) (s .bads) 0 x h in (l .0, omega arith, l .1 .2)),
     (λ h. Memᴰ·cast (h .2) (member-listed (badAt t s) (s .bads) 0 (h .0) (omega arith) (let l = h .1 in omega arith))),
   )
+
+-- An operation on n channels with k messages, where these are no more than 4 and 15.
+ranged-within : (n k : ℕ) (o : Operation) → n ≤ 4 → k ≤ 15 → Ranged n k o → Ranged 4 15 o
+ranged-within n k quiet a b h = tt
+ranged-within n k (send c m) a b h = (omega arith, omega arith)
+ranged-within n k (receive c m) a b h = (omega arith, omega arith)
 
 module _ (t : List ℕ) (s : Shape) (g : GoodTable t s) where
   -- The system of a good table, in its parts.
@@ -95,3 +102,22 @@ module _ (t : List ℕ) (s : Shape) (g : GoodTable t s) where
     moves = λ m h. let i = move-member m .0 h in subst (MoveOf (systemOf t)) (sym (i .2)) (move-of (i .0) (i .1));
     bad = λ x h. let i = bad-member x .0 h in rw (states-are, i .2) (bad-range t s g (i .0) (i .1));
   }
+
+  -- At most 4 channels and 15 messages.
+  pub few-channels : (systemOf t) .channels ≤ 4
+  few-channels = rw channels-are (ranges t s g .channels)
+
+  pub few-messages : (systemOf t) .messages ≤ 15
+  few-messages = rw messages-are (ranges t s g .messages)
+
+  -- So the numbers of transition i are within these, and its target fits a word.
+  module _ (i : ℕ) (u : Transition) (e : u ≡ transitionAt t i) (h : i < s .transitions) where
+    pub transition-ranged : Ranged 4 15 (operationOf (u .operation))
+    transition-ranged =
+        ranged-within ((systemOf t) .channels) ((systemOf t) .messages) (operationOf (u .operation)) few-channels few-messages
+        (subst (λ (x : Transition). Ranged ((systemOf t) .channels) ((systemOf t) .messages) (operationOf (x .operation))) (sym e) (move-of i h .operation))
+
+    pub transition-target : u .target < 65536
+    transition-target =
+        let a = subst (λ (x : Transition). x .target < (systemOf t) .states) (sym e) (move-of i h .target) in
+        omega (arith, states-are, ranges t s g .states)

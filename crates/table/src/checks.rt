@@ -15,7 +15,7 @@ use crate::fields::header_fields;
 use crate::fields::header_of;
 use crate::fields::transition_fields;
 use crate::numbers::number_at;
-use crate::records::part_of;
+use crate::reader::payload_from;
 
 // A good table: the header's numbers, how many transitions and how many bad states.
 // Transition i's record stands at 10 + 12 i, bad state i's at 10 + 12 transitions + 6 i.
@@ -83,7 +83,7 @@ fn read_header(t: &[u8]) -> Headed
         }
         Tested::Passes => {}
     }
-    header_fields(header_of(part_of(t, 0, 6)))
+    header_fields(header_of(payload_from(t, 0)))
 }
 
 // The record at a place where transition number count may stand.
@@ -103,7 +103,7 @@ fn transition_step(t: &[u8], h: Header, at: usize, count: usize) -> Step
     if 1024 <= count {
         return Step::Fails(Fault::Count);
     }
-    transition_fields(h, entry_of(part_of(t, at, 8)))
+    transition_fields(h, entry_of(payload_from(t, at)))
 }
 
 // The transitions, from place 10 on.
@@ -140,7 +140,7 @@ fn bad_step(t: &[u8], states: usize, at: usize, low: usize) -> Rise
         }
         Tested::Passes => {}
     }
-    bad_fields(number_at(part_of(t, at, 2), 0), states, low)
+    bad_fields(number_at(payload_from(t, at), 0), states, low)
 }
 
 // The bad states, from a place on.

@@ -33,18 +33,18 @@ pub fn next_payload<'a>(r: Reader<'a>) -> &'a [u8]
     payload_at(r.table, r.at)
 }
 
-// The reader before the record at another place.
-pub fn moved_to<'a>(r: Reader<'a>, at: usize) -> Reader<'a>
-    ensures { λ q. ⌜ (q .table ≡ r .entry .table) × (q .at ≡ at) ⌝ }
-{
-    Reader { table: r.table, at }
-}
-
 // The record that a reader finds at a place of a table; for callers that hold a plain slice.
 pub fn record_from(t: &[u8], at: usize) -> Record
     ensures { λ r. ⌜ r ≡ recordAt (now (t .entry)) at ⌝ }
 {
     next_record(reader_at(t, at))
+}
+
+// That record's payload, as that part of the table; for the same callers.
+pub fn payload_from(t: &[u8], at: usize) -> &[u8]
+    ensures { λ r. ⌜ now r ≡ payloadAt (now (t .entry)) at ⌝ }
+{
+    next_payload(reader_at(t, at))
 }
 
 // What a walk over all records finds: how many there are, or the place of the one inside which the bytes end.

@@ -1,7 +1,6 @@
--- A frame that passes says that the payload is there; the answer is the frame's or the field's.
+-- A frame that passes says how long the payload is; the answer is the frame's or the field's.
 use borrow.Author.Needs.{needs}
-use mathlib.Core.Path.{sym, _∙_}
-use Rattle.table.proofs.RecordLaws.{framed-there, framed-fits}
+use Rattle.table.proofs.RecordLaws.{framed-fits}
 use Rattle.table.proofs.StepLaws.{bad-unframed, bad-field}
 use Rattle.table.proofs.checks.bad_step.Statement.{statement}
 use Rattle.table.proofs.checks.bad_step.Tie as tie
@@ -18,11 +17,11 @@ returns c = bad-unframed _ _ _ _ _ (cc)
 enum-told : tie.Need-enum-told
 enum-told c = search needs
 
-part-of-requires : tie.Need-part-of-requires
-part-of-requires c κs = framed-there _ _ _ _ (sym (c .before .before .framed-at .ensures) ∙ c .enum-told .given .1)
+payload-from-requires : tie.Need-payload-from-requires
+payload-from-requires c κs = search needs
 
 number-at-requires : tie.Need-number-at-requires
-number-at-requires c κs = framed-fits _ _ _ 3 _ (cc) (c .part-of .ensures)
+number-at-requires c κs = framed-fits _ _ _ 3 _ (cc) (c .payload-from .ensures)
 
 bad-fields-requires : tie.Need-bad-fields-requires
 bad-fields-requires c κs = search needs
@@ -38,7 +37,7 @@ bad-step-spec =
     enum-known-fault
     returns
     enum-told
-    part-of-requires
+    payload-from-requires
     number-at-requires
     bad-fields-requires
     returns-2)

@@ -1,7 +1,6 @@
--- A frame that passes says that the payload is there; the answer is the frame's or the fields'.
+-- A frame that passes says how long the payload is; the answer is the frame's or the fields'.
 use borrow.Author.Needs.{needs}
-use mathlib.Core.Path.{sym, _∙_}
-use Rattle.table.proofs.RecordLaws.{framed-there, framed-fits}
+use Rattle.table.proofs.RecordLaws.{framed-fits}
 use Rattle.table.proofs.StepLaws.{header-unframed, header-fields}
 use Rattle.table.proofs.checks.read_header.Statement.{statement}
 use Rattle.table.proofs.checks.read_header.Tie as tie
@@ -18,11 +17,11 @@ returns c = header-unframed _ _ (cc)
 enum-told : tie.Need-enum-told
 enum-told c = search needs
 
-part-of-requires : tie.Need-part-of-requires
-part-of-requires c κs = framed-there _ _ _ _ (sym (c .before .before .framed-at .ensures) ∙ c .enum-told .given .1)
+payload-from-requires : tie.Need-payload-from-requires
+payload-from-requires c κs = search needs
 
 header-of-requires : tie.Need-header-of-requires
-header-of-requires c κs = framed-fits _ _ _ 1 _ (cc) (c .part-of .ensures)
+header-of-requires c κs = framed-fits _ _ _ 1 _ (cc) (c .payload-from .ensures)
 
 header-fields-requires : tie.Need-header-fields-requires
 header-fields-requires c κs = search needs
@@ -38,7 +37,7 @@ read-header-spec =
     enum-known-fault
     returns
     enum-told
-    part-of-requires
+    payload-from-requires
     header-of-requires
     header-fields-requires
     returns-2)

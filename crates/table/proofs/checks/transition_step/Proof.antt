@@ -1,8 +1,7 @@
--- A frame that passes says that the payload is there; the answer is the kind's, the frame's, the count's or the fields'.
+-- A frame that passes says how long the payload is; the answer is the kind's, the frame's, the count's or the fields'.
 use borrow.Author.Needs.{needs}
-use mathlib.Core.Path.{sym, _∙_}
 use native.Mathlib.Omega.{arith}
-use Rattle.table.proofs.RecordLaws.{framed-there, framed-fits}
+use Rattle.table.proofs.RecordLaws.{framed-fits}
 use Rattle.table.proofs.StepLaws.{step-end, step-unframed, step-count, step-fields}
 use Rattle.table.proofs.checks.transition_step.Statement.{statement}
 use Rattle.table.proofs.checks.transition_step.Tie as tie
@@ -28,11 +27,11 @@ enum-told c = search needs
 returns-3 : tie.Need-returns-3
 returns-3 c = step-count _ _ _ _ (λ q. omega arith) (cc) (omega arith)
 
-part-of-requires : tie.Need-part-of-requires
-part-of-requires c κs = framed-there _ _ _ _ (sym (c .before .before .before .framed-at .ensures) ∙ c .before .enum-told .given .1)
+payload-from-requires : tie.Need-payload-from-requires
+payload-from-requires c κs = search needs
 
 entry-of-requires : tie.Need-entry-of-requires
-entry-of-requires c κs = framed-fits _ _ _ 2 _ (cc) (c .part-of .ensures)
+entry-of-requires c κs = framed-fits _ _ _ 2 _ (cc) (c .payload-from .ensures)
 
 transition-fields-requires : tie.Need-transition-fields-requires
 transition-fields-requires c κs = search needs
@@ -51,7 +50,7 @@ transition-step-spec =
     returns-2
     enum-told
     returns-3
-    part-of-requires
+    payload-from-requires
     entry-of-requires
     transition-fields-requires
     returns-4)
