@@ -1,3 +1,2 @@
 -- The parts agree.
-pub mod RowLaws
 pub mod SafeLaws

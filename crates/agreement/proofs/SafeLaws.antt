@@ -22,14 +22,15 @@ use Rattle.rows.proofs.OutcomeLaws.{outcome-iff, impossible-iff}
 use Rattle.rows.proofs.RowOfLaws.{outcome-of}
 use Rattle.explore.specs.Search.{Entry, safe, Found, search}
 use Rattle.explore.proofs.TestLaws.{covered-iff}
-use Rattle.explore.proofs.WalkLaws.{Settled, never, within, Done, Linked, Rows, Says, Right, search-right}
+use Rattle.explore.specs.Found.{Settled, never, within, Done, Linked, Rows, Says}
+use Rattle.explore.proofs.WalkLaws.{Right, search-right}
 use Rattle.findings.specs.Search.{outcomeAt, badRow, frameOf, firstEntry}
 use Rattle.findings.proofs.FindLaws.{Made, outcome-made}
 use Rattle.judgement.specs.Judge.{accepted, judge}
 use Rattle.judgement.proofs.SettledLaws.{In, Held, Kept, empty, inside}
 use Rattle.judgement.proofs.ExactLaws.{NoBad, AllKept, accepted-iff}
 use Rattle.judgement.proofs.SoundLaws.{judge-sound}
-use Rattle.agreement.proofs.RowLaws.{normal-row-of, entry-row-of}
+use Rattle.findings.proofs.RowLaws.{normal-row-of, entry-row-of}
 
 module _ (S : System) where
   -- The rows of the search, as the judge sees them.

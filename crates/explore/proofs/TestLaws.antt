@@ -13,7 +13,7 @@ use Rattle.common.proofs.ChoiceLaws.{true-then, true-else, lt-then, lt-else}
 use Rattle.common.proofs.AtLaws.{At, at-grown, at-end}
 use Rattle.common.proofs.FirstLaws.{any-iff}
 use Rattle.explore.specs.Frame.{Frame}
-use Rattle.explore.specs.Search.{Entry, Verdict, unsafe, atomsFull, rowsFull, covered, Visit, on, stop, tests}
+use Rattle.explore.specs.Search.{Entry, unsafe, atomsFull, rowsFull, covered, Visit, on, stop, tests}
 
 module _ (F : Frame) where
   abbrev pub entry : F .Row → ℕ → ℕ → Entry F

@@ -2,12 +2,12 @@
 use mathlib.Core.Path.{_≡_, refl, sym, ap, subst, _∙_}
 use mathlib.Core.Bool.{true, false, true≢false}
 use mathlib.Core.Logic.{_⊎_, inl, inr}
-use mathlib.Core.List.{List, [], _∷_, _++_, append-assoc, append-nil, append-cancel-right}
+use mathlib.Core.List.{[], _∷_, _++_, append-assoc, append-nil, append-cancel-right}
 use Prim.Native.Nat.{ℕ, zero, suc, _-_}
 use native.Mathlib.Omega.{arith}
 use lib.Dec.{eqb}
 use lib.ListN.{length, replicate}
-use borrow.Author.Tests.{eqb-true, eqb-false, eq-eqb, ne-eqb}
+use borrow.Author.Tests.{eqb-true, eqb-false, eq-eqb}
 use Rattle.common.specs.Choice.{ifEq}
 use Rattle.common.proofs.BoolLaws.{either, clash}
 use Rattle.common.proofs.ChoiceLaws.{eq-then, eq-else}
@@ -52,6 +52,18 @@ strip-whole m (x ∷ w) = go (stripped m w) (strip-whole m w) (either (eqb x m))
     go (y ∷ v) e q =
         let n : suc (length w) - suc (suc (length v)) ≡ length w - suc (length v) = omega arith in
         ap (x ∷_) (e ∙ ap (λ (i : ℕ). y ∷ v ++ replicate i m) (sym n))
+
+-- One m more at the end is stripped too, and a word that does not end in m stays.
+pub strip-snoc : (m : ℕ) (w : Word) → stripped m (w ++ (m ∷ [])) ≡ stripped m w
+unfolding stripped
+strip-snoc m [] = sym (eq-then _ _ _ _ refl refl)
+strip-snoc m (x ∷ w) = rw (strip-snoc m w)
+
+pub strip-none : (m : ℕ) (w : Word) → endsWith m w ≡ false → stripped m w ≡ w
+unfolding stripped endsWith
+strip-none m [] e = refl
+strip-none m (x ∷ []) e = sym (eq-else _ _ _ _ (eqb-false x m e) refl)
+strip-none m (x ∷ y ∷ w) e = rw (strip-none m (y ∷ w) e)
 
 -- What is left does not end in m.
 pub strip-ends : (m : ℕ) (w : Word) → endsWith m (stripped m w) ≡ false

@@ -1,36 +1,31 @@
 -- What the search finds for a system: its rows are rows of the table, and with unsafe the rebuilt run plays to a bad state.
 use mathlib.Core.Path.{_≡_, refl, sym, ap, subst, _∙_, fun-ext}
-use mathlib.Core.Bool.{Bool, true, false}
-use mathlib.Core.Logic.{_⊎_, inl, inr, _↔_}
-use mathlib.Core.List.{List, [], _∷_, _++_}
+use mathlib.Core.Bool.{true, false}
+use mathlib.Core.Logic.{_⊎_, inl, inr}
+use mathlib.Core.List.{List, [], _++_}
 use mathlib.Core.Option.{Option, none, some, Option·map, Option·none-ne-some, Option·some-injective}
 use Prim.Native.Nat.{ℕ, zero, suc, _<_, _≤_}
 use native.Mathlib.Omega.{arith}
 use lib.Dec.{eqb}
 use lib.ListN.{length, getElem?}
 use borrow.Author.Tests.{eqb-true, eqb-false}
-use Rattle.common.specs.Choice.{ifEq}
-use Rattle.common.specs.First.{isIn}
 use Rattle.common.proofs.AtLaws.{At, at-below, at-same, mem-at}
 use Rattle.common.proofs.BoolLaws.{either}
 use Rattle.common.proofs.ChoiceLaws.{eq-then, eq-else, true-then}
 use Rattle.meaning.specs.Words.{Word}
-use Rattle.meaning.specs.Systems.{Operation, Move, System, MoveOf, WellMade, Contents, Config, startOf}
+use Rattle.meaning.specs.Systems.{Move, System, MoveOf, WellMade, Contents, Config, startOf}
 use Rattle.meaning.specs.Outcomes.{selfLoopSend}
 use Rattle.meaning.specs.Products.{ProductWord, end}
 use Rattle.meaning.proofs.ProductLaws.{product-nil}
-use Rattle.atoms.specs.Masks.{AtomOf, AtomsOf}
 use Rattle.atoms.specs.Products.{product, WordOf}
 use Rattle.atoms.specs.Normal.{normal}
-use Rattle.atoms.proofs.NormalLaws.{normal-words, normal-each}
-use Rattle.rows.specs.Rows.{Row, RowOf, normalRow, startRow}
-use Rattle.rows.specs.Outcomes.{after, outcome}
-use Rattle.rows.proofs.CoverLaws.{covers-self}
+use Rattle.atoms.proofs.NormalLaws.{normal-words}
+use Rattle.rows.specs.Rows.{Row, normalRow}
+use Rattle.rows.specs.Outcomes.{outcome}
 use Rattle.rows.proofs.OutcomeLaws.{Holds, HoldsIn, outcome-parts}
-use Rattle.rows.proofs.RowOfLaws.{outcome-of}
-use Rattle.explore.specs.Search.{Entry, Verdict, safe, unsafe, Found, search}
-use Rattle.explore.proofs.WalkLaws.{Linked, Rows, Met, Right, search-right}
-use Rattle.playing.specs.Play.{Played, endsIn, play, reachesBad, judgeEnd, replay}
+use Rattle.explore.specs.Search.{Entry}
+use Rattle.explore.specs.Found.{Linked, Rows, Met}
+use Rattle.playing.specs.Play.{play, reachesBad, judgeEnd, replay}
 use Rattle.playing.proofs.PlayLaws.{Plays, plays-then}
 use Rattle.findings.specs.Search.{outcomeAt, badRow, frameOf, firstEntry}
 use Rattle.findings.specs.Rebuild.{Back, back, backOver, rebuilt, runOf}

@@ -10,22 +10,21 @@ use native.Mathlib.Omega.{arith}
 use lib.Dec.{eqb}
 use lib.ListN.{length, getElem?, replicate, length-append, length-replicate}
 use borrow.Author.Tests.{eqb-true, eqb-false}
-use Rattle.common.specs.Choice.{ifTrue, ifEq}
 use Rattle.common.proofs.AtLaws.{At, at-below, at-same, mem-at}
 use Rattle.common.proofs.BoolLaws.{either}
 use Rattle.common.proofs.ChoiceLaws.{true-then, true-else, eq-then, eq-else}
 use Rattle.meaning.specs.Words.{Word}
-use Rattle.meaning.specs.Systems.{Operation, quiet, send, Move, System, MoveOf, WellMade, Ranged, Contents, put}
+use Rattle.meaning.specs.Systems.{Operation, quiet, send, Move, System, WellMade, Ranged, Contents, put}
 use Rattle.meaning.specs.Outcomes.{selfLoopSend}
 use Rattle.meaning.proofs.PutLaws.{put-same, put-other}
 use Rattle.explore.specs.Search.{Entry}
-use Rattle.explore.proofs.WalkLaws.{Linked, Rows, Met}
+use Rattle.explore.specs.Found.{Linked, Rows, Met}
 use Rattle.findings.specs.Search.{frameOf, firstEntry, badRow}
 use Rattle.findings.specs.Rebuild.{endsWith, allButLast, stripped, Back, back, backOver, rebuilt, runOf}
 use Rattle.findings.proofs.EndLaws.{ends-last, strip-whole}
 
 -- How many messages the first n channels hold.
-size : ℕ → Contents → ℕ
+pub size : ℕ → Contents → ℕ
 size zero f = 0
 size (suc n) f = size n f + length (f n)
 
@@ -60,7 +59,7 @@ size-put (suc n) f c w h = go (either (eqb c n)) (size-put n f c w)
         let b : length (put f c w n) ≡ length (f n) = ap length (put-other f c w n (λ q. z (sym q))) in
         omega arith
 
-size-none : (n : ℕ) → size n (λ c. []) ≡ 0
+pub size-none : (n : ℕ) → size n (λ c. []) ≡ 0
 unfolding size
 size-none zero = refl
 size-none (suc n) = let i = size-none n in omega arith
@@ -93,7 +92,7 @@ back-small n k false (send c m) j f g = go (either (endsWith m (f c)))
 
 module _ (S : System) (wm : WellMade S) where
   -- Going back over the move with number j, whether it is there or not.
-  over-small : (j : ℕ) (f : Contents) → Small (S .channels) f (backOver S j f)
+  pub over-small : (j : ℕ) (f : Contents) → length (backOver S j f .words) + size (S .channels) (backOver S j f .before) ≤ size (S .channels) f + 2
   unfolding Small
   over-small j f = go (getElem? (S .moves) j) refl
     where
@@ -115,7 +114,7 @@ module _ (S : System) (wm : WellMade S) where
             → Linked (frameOf S) l i e → Short i f ws (rebuilt S k l (e .parent) (backOver S (e .move) f .before) (backOver S (e .move) f .words ++ ws))
         parent rest q =
             let b = backOver S (e .move) f in
-            let s : length (b .words) + size (S .channels) (b .before) ≤ size (S .channels) f + 2 = unfold Small in over-small (e .move) f in
+            let s : length (b .words) + size (S .channels) (b .before) ≤ size (S .channels) f + 2 = over-small (e .move) f in
             let a = length-append (b .words) ws in
             let r : length (rebuilt S k l (e .parent) (b .before) (b .words ++ ws)) ≤ length (b .words ++ ws) + size (S .channels) (b .before) + 2 * e .parent = rest (q .source) (b .before) (b .words ++ ws) (q .stands) in
             omega (arith, q .earlier)

@@ -3,3 +3,4 @@ pub mod EndLaws
 pub mod BackLaws
 pub mod FindLaws
 pub mod LengthLaws
+pub mod RowLaws

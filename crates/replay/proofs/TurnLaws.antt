@@ -1,11 +1,12 @@
 -- One move made, and one run word played on a good table.
 use mathlib.Core.Path.{_≡_, refl, sym, ap, _∙_}
 use mathlib.Core.Bool.{Bool, true, false}
-use mathlib.Core.List.{List, [], _∷_}
+use mathlib.Core.List.{List}
 use mathlib.Core.Option.{Option, none, some, Option·map}
-use Prim.Native.Nat.{ℕ, zero, suc, _%_, _<_, _≤_}
+use Prim.Native.Nat.{ℕ, _%_, _<_, _≤_}
 use native.Mathlib.Omega.{arith}
-use lib.ListN.{length, getElem?}
+use lib.ListN.{getElem?}
+use Rattle.common.proofs.AtLaws.{past-at}
 use Rattle.common.proofs.ChoiceLaws.{eq-then, eq-else}
 use Rattle.meaning.specs.Systems.{System, Move, Contents, Config}
 use Rattle.table.specs.Transitions.{transitionAt, moveOf}
@@ -14,17 +15,12 @@ use Rattle.table.proofs.SystemLaws.{moves-length, move-at}
 use Rattle.table.specs.declared.checks.Shape.{Shape}
 use Rattle.table.specs.declared.transitions.Transition.{Transition}
 use Rattle.playing.specs.Play.{number, lost, operated, playMove, playWord}
-use Rattle.replay.specs.Queues.{contentsIn, given, Done}
+use Rattle.channels.specs.Contents.{contentsIn}
+use Rattle.replay.specs.Queues.{given, Done}
 use Rattle.replay.specs.Turns.{configIn, Moved, Turned}
 use Rattle.replay.specs.declared.turns.Turn.{Turn}
 use Rattle.replay.specs.declared.turns.Turn.the-variants.{To, Stuck}
 use Rattle.replay.proofs.QueueLaws.{stays}
-
--- Nothing stands behind a list's end.
-none-past : {A : Type 0} (l : List A) (n : ℕ) → length l ≤ n → getElem? l n ≡ none
-none-past [] n h = refl
-none-past (x ∷ l) zero h = absurd (omega arith)
-none-past (x ∷ l) (suc n) h = none-past l n (omega arith)
 
 -- A word whose move is there is that move played.
 word-move : (S : System) (w : ℕ) (m : Move) (x : Config) → getElem? (S .moves) (number w) ≡ some m → playWord S w x ≡ playMove (lost w) m x
@@ -72,7 +68,7 @@ module _ (t : List ℕ) (h : Shape) (w q : ℕ) (s e : List ℕ) (g : GoodTable 
   pub turn-past : h .transitions ≤ w % 32768 → Turned t w q s e s e Stuck
   turn-past l =
       let z = moves-length t h g in
-      record { makes = sym (word-none (systemOf t) w (configIn q s e) (none-past ((systemOf t) .moves) (w % 32768) (omega arith))); queues = stays s e }
+      record { makes = sym (word-none (systemOf t) w (configIn q s e) (past-at ((systemOf t) .moves) (w % 32768) (omega arith))); queues = stays s e }
 
   -- There is one.
   pub turn-there : {s′ e′ : List ℕ} {r : Transition} {u : Turn} → w % 32768 < h .transitions → r ≡ transitionAt t (w % 32768)

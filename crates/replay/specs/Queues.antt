@@ -5,21 +5,9 @@ use mathlib.Core.List.{List, []}
 use mathlib.Core.Option.{Option, none, some}
 use Prim.Native.Nat.{ℕ, _+_, _*_, _<_, _≤_}
 use lib.ListN.{length, getD}
-use Rattle.common.specs.Choice.{ifLt}
-use Rattle.common.specs.Part.{part}
 use Rattle.meaning.specs.Systems.{Contents, Operation, quiet, send, receive}
+use Rattle.channels.specs.Contents.{headOf, tailOf, contentsIn}
 use Rattle.playing.specs.Play.{operated}
-
--- Where what waits in channel c begins and ends among its 2,048 places.
-abbrev pub headOf : List ℕ → ℕ → ℕ
-headOf ends c = getD ends c 0
-
-abbrev pub tailOf : List ℕ → ℕ → ℕ
-tailOf ends c = getD ends (4 + c) 0
-
--- The contents of the 4 channels that a table can have; nothing past them.
-unfoldable pub contentsIn : List ℕ → List ℕ → Contents
-contentsIn store ends c = ifLt c 4 (part (2048 * c + headOf ends c) (2048 * c + tailOf ends c) store) []
 
 -- The memory is as long as it must be, and each channel has had at most n messages.
 pub record Queues (n : ℕ) (store ends : List ℕ) : Type 0 where

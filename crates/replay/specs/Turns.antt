@@ -7,7 +7,8 @@ use Prim.Native.Nat.{ℕ, _+_}
 use Rattle.meaning.specs.Systems.{Move, Config}
 use Rattle.table.specs.Systems.{systemOf}
 use Rattle.playing.specs.Play.{playMove, playWord}
-use Rattle.replay.specs.Queues.{contentsIn, Queues}
+use Rattle.channels.specs.Contents.{contentsIn}
+use Rattle.replay.specs.Queues.{Queues}
 use Rattle.replay.specs.declared.turns.Turn.{Turn}
 use Rattle.replay.specs.declared.turns.Turn.the-variants.{To, Stuck}
 

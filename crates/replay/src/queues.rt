@@ -7,13 +7,7 @@ ghost use Rattle.table.specs.Transitions.{operationOf};
 ghost use Rattle.meaning.specs.Systems.{Ranged, send, receive};
 ghost use Rattle.replay.specs.Queues.{Queues, canLose, Done};
 use table::Operation;
-
-// A byte as a number.
-fn wide(x: u8) -> usize
-    ensures { λ r. ⌜ r ≡ x ⌝ }
-{
-    x as usize
-}
+use table::numbers::wide;
 
 // Puts a message behind the others of its channel. Inner: there is room for it.
 fn send_on(store: &mut [u8], ends: &mut [usize], channel: usize, message: usize)
@@ -62,7 +56,7 @@ fn can_lose(operation: Operation) -> bool
 
 // Does an operation, `gone` where its message is marked lost, and says whether it can be done. A lost message is gone at its send.
 pub fn operate(gone: bool, operation: Operation, store: &mut [u8], ends: &mut [usize]) -> bool
-    requires { ⌜ Ranged 4 256 (operationOf operation) × Queues 2047 (now store) (now ends) ⌝ }
+    requires { ⌜ Ranged 4 15 (operationOf operation) × Queues 2047 (now store) (now ends) ⌝ }
     ensures { λ r. ⌜ Done gone (operationOf operation) (now (store .entry)) (now (ends .entry)) (now (store .exit)) (now (ends .exit)) r ⌝ }
 {
     if gone {

@@ -24,7 +24,7 @@ fn play_move(
     store: &mut [u8],
     ends: &mut [usize],
 ) -> Turn
-    requires { ⌜ Ranged 4 256 (operationOf (transition .operation)) × Queues 2047 (now store) (now ends) ⌝ }
+    requires { ⌜ Ranged 4 15 (operationOf (transition .operation)) × Queues 2047 (now store) (now ends) ⌝ }
     ensures { λ r. ⌜ Moved gone (moveOf transition) state (now (store .entry)) (now (ends .entry)) (now (store .exit)) (now (ends .exit)) r ⌝ }
 {
     if state == transition.source {

@@ -1,13 +1,12 @@
 -- One row in another: the test is true exactly when every configuration of the one is in the other.
 use mathlib.Core.Path.{_≡_, refl, sym, subst}
-use mathlib.Core.Bool.{Bool, true, false, true≢false}
+use mathlib.Core.Bool.{true, false, true≢false}
 use mathlib.Core.Logic.{_⊎_, inl, inr, _↔_, Iff·trans, Iff·symm}
-use mathlib.Core.List.{List, []}
-use Prim.Native.Nat.{ℕ, zero, suc, _<_, _≤_}
+use mathlib.Core.List.{List}
+use Prim.Native.Nat.{ℕ, zero, suc, _<_}
 use native.Mathlib.Omega.{arith}
 use lib.Dec.{eqb, ltb}
 use borrow.Author.Tests.{eqb-true, eqb-false, ltb-true, ltb-false}
-use Rattle.common.specs.Choice.{ifTrue, ifEq}
 use Rattle.common.proofs.BoolLaws.{either}
 use Rattle.common.proofs.ChoiceLaws.{true-then, true-cases, eq-then, eq-cases}
 use Rattle.meaning.specs.Systems.{Config}

@@ -2,3 +2,4 @@
 pub mod CoverLaws
 pub mod OutcomeLaws
 pub mod RowOfLaws
+pub mod NormalLaws

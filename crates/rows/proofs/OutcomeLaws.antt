@@ -2,7 +2,7 @@
 use mathlib.Core.Path.{_≡_, refl, sym, ap, subst, _∙_}
 use mathlib.Core.Bool.{Bool, true, false, true≢false}
 use mathlib.Core.Logic.{_⊎_, inl, inr, _↔_}
-use mathlib.Core.List.{List, [], _∷_, _++_, append-assoc, append-nil, map-append}
+use mathlib.Core.List.{List, [], _∷_, _++_, append-assoc, append-nil}
 use mathlib.Core.Option.{Option, none, some, Option·map, Option·none-ne-some, Option·some-injective}
 use Prim.Native.Nat.{ℕ, zero, suc, _<_, _≤_}
 use native.Mathlib.Omega.{arith}
@@ -12,16 +12,16 @@ use borrow.Author.Tests.{eqb-true}
 use Rattle.common.proofs.BoolLaws.{either}
 use Rattle.common.proofs.ChoiceLaws.{eq-then, eq-cases}
 use Rattle.meaning.specs.Words.{Word, _⪯_}
-use Rattle.meaning.specs.Systems.{Operation, quiet, send, Move, Ranged, Contents, Config, put, Operates, Moves}
+use Rattle.meaning.specs.Systems.{Operation, quiet, send, Move, Ranged, Contents, Config, put, Operates}
 use Rattle.meaning.specs.Rows.{InRow}
-use Rattle.meaning.specs.Outcomes.{Remains, Round, Rounds, more, selfLoopSend, Leaves, once, rounds, Outcome}
+use Rattle.meaning.specs.Outcomes.{Round, Rounds, more, selfLoopSend, Leaves, once, rounds, Outcome}
 use Rattle.meaning.proofs.WordLaws.{⪯-refl, ⪯-join, ⪯-trans, ⪯-same, replicate-snoc}
 use Rattle.meaning.proofs.ProductLaws.{product-⪯}
 use Rattle.meaning.proofs.PutLaws.{put-same, put-other, put-each, put-both, put-put, put-id}
 use Rattle.meaning.proofs.LossLaws.{remains-refl}
 use Rattle.meaning.proofs.RowLaws.{row-remains, lowest, lowest-in}
 use Rattle.meaning.proofs.OutcomeLaws.{outcome-closed, rounds-source}
-use Rattle.atoms.specs.Masks.{meant, singleOf, starOf}
+use Rattle.atoms.specs.Masks.{singleOf, starOf}
 use Rattle.atoms.specs.Products.{product, WordOf}
 use Rattle.atoms.specs.Receive.{received}
 use Rattle.atoms.proofs.SendLaws.{send-iff, rounds-iff}

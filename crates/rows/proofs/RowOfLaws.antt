@@ -1,11 +1,10 @@
 -- The outcome of a move of a table from a row of the table is a row of the table.
-use mathlib.Core.Path.{_≡_, refl, sym, subst, _∙_}
+use mathlib.Core.Path.{_≡_, refl, subst, _∙_}
 use mathlib.Core.Bool.{Bool, true, false}
-use mathlib.Core.List.{List, [], _∷_, _++_}
+use mathlib.Core.List.{List, [], _∷_}
 use mathlib.Core.Option.{Option, none, some, Option·map, Option·none-ne-some, Option·some-injective}
 use Prim.Native.Nat.{ℕ, _<_, _≤_}
 use native.Mathlib.Omega.{arith}
-use Rattle.common.specs.Each.{Each}
 use Rattle.common.proofs.EachLaws.{each-append}
 use Rattle.meaning.specs.Systems.{Operation, quiet, send, Move, Ranged, put}
 use Rattle.meaning.specs.Outcomes.{selfLoopSend}

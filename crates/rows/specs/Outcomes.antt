@@ -8,6 +8,7 @@ use Rattle.meaning.specs.Systems.{Operation, quiet, send, Move, Config, put}
 use Rattle.meaning.specs.Rows.{InRow}
 use Rattle.meaning.specs.Outcomes.{selfLoopSend}
 use Rattle.atoms.specs.Masks.{singleOf, starOf}
+use Rattle.atoms.specs.Normal.{normal}
 use Rattle.atoms.specs.Receive.{received}
 use Rattle.rows.specs.Rows.{Row, meantRow}
 
@@ -20,6 +21,13 @@ unfoldable pub after : Bool → Operation → (ℕ → List ℕ) → Option (ℕ
 after loop quiet p = some p
 after loop (send c m) p = some (put p c (p c ++ (sentAtom loop m ∷ [])))
 after loop (Operation.receive c m) p = Option·map (put p c) (received m (p c))
+
+-- What an operation leaves of products in normal form, in normal form: only the product that it changes must be brought to it, and what a receive leaves
+-- already is.
+unfoldable pub normalAfter : Bool → Operation → (ℕ → List ℕ) → Option (ℕ → List ℕ)
+normalAfter loop quiet p = some p
+normalAfter loop (send c m) p = some (put p c (normal (p c ++ (sentAtom loop m ∷ []))))
+normalAfter loop (Operation.receive c m) p = Option·map (put p c) (received m (p c))
 
 -- The outcome of a move from a row, as a row; none where the move is impossible.
 unfoldable pub outcome : Move → Row → Option Row

@@ -1,11 +1,11 @@
 -- The outcome of an operation from a row, channel by channel.
 use mathlib.Core.Path.{_≡_, refl, sym, ap, subst, _∙_}
 use mathlib.Core.Bool.{Bool, true, false}
-use mathlib.Core.List.{List, [], _∷_, _++_}
+use mathlib.Core.List.{List}
 use mathlib.Core.Option.{Option, none, some, Option·map}
 use Prim.Native.Nat.{ℕ, _+_, _*_, _<_, _≤_}
 use native.Mathlib.Omega.{arith}
-use lib.ListN.{length, getD}
+use lib.ListN.{getD}
 use Rattle.common.specs.Part.{part}
 use Rattle.common.proofs.ChoiceLaws.{lt-else}
 use Rattle.common.proofs.PartLaws.{part-none}
@@ -14,18 +14,15 @@ use Rattle.meaning.proofs.PutLaws.{put-id}
 use Rattle.atoms.specs.Masks.{singleOf, starOf}
 use Rattle.atoms.specs.Normal.{normal}
 use Rattle.atoms.specs.Receive.{received}
-use Rattle.rows.specs.Outcomes.{sentAtom}
+use Rattle.rows.specs.Outcomes.{sentAtom, normalAfter}
 use Rattle.table.specs.Transitions.{operationOf}
 use Rattle.table.specs.declared.transitions.Operation.{Operation}
 use Rattle.table.specs.declared.transitions.Operation.the-variants.{Quiet, Send, Receive}
 use Rattle.work.specs.Layout.{countPlace}
-use Rattle.search.specs.Look.{productAt, Sized}
+use Rattle.search.specs.Look.{productAt}
 use Rattle.search.specs.Outcomes.{Sent, changedTo, FewLeft}
-use Rattle.search.specs.Changes.{normalAfter, changedIn, FewChanged}
 use Rattle.search.specs.declared.outcomes.Change.{Change}
 use Rattle.search.specs.declared.outcomes.Change.the-variants as change
-use Rattle.search.specs.declared.outcomes.Changed.{Changed}
-use Rattle.search.specs.declared.outcomes.Changed.the-variants as changed
 use Rattle.search.proofs.LookLaws.{product-there}
 
 -- ---- the atom that a send adds

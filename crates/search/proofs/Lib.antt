@@ -2,3 +2,9 @@
 pub mod OutcomeLaws
 pub mod LookLaws
 pub mod ChangeLaws
+pub mod StandingLaws
+pub mod VisitLaws
+pub mod PassLaws
+pub mod RunLaws
+pub mod SearchLaws
+pub mod FindingLaws

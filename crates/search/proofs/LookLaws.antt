@@ -1,11 +1,11 @@
 -- The look over the rows: channel by channel, row by row.
 use mathlib.Core.Path.{_≡_, refl, sym, ap, subst, _∙_}
 use mathlib.Core.Bool.{Bool, true, false}
-use mathlib.Core.List.{List, [], _∷_}
-use Prim.Native.Nat.{ℕ, zero, suc, _+_, _-_, _*_, _<_, _≤_}
+use mathlib.Core.List.{List}
+use Prim.Native.Nat.{ℕ, suc, _+_, _-_, _*_, _<_, _≤_}
 use native.Mathlib.Omega.{arith}
 use lib.ListN.{length, getD}
-use Rattle.common.specs.Choice.{ifTrue, ifEq}
+use Rattle.common.specs.Choice.{ifTrue}
 use Rattle.common.specs.First.{anyOf}
 use Rattle.common.specs.Part.{part}
 use Rattle.common.proofs.ChoiceLaws.{true-then, true-else, lt-then, eq-then, eq-else}
@@ -13,8 +13,8 @@ use Rattle.meaning.specs.Systems.{put}
 use Rattle.meaning.proofs.PutLaws.{put-same, put-other}
 use Rattle.atoms.specs.Contained.{contained}
 use Rattle.rows.specs.Rows.{Row, eachContained, covers}
-use Rattle.work.specs.Layout.{countPlace, atomsPlace}
-use Rattle.search.specs.Look.{productAt, rowAt, rowsAt, outcomeRow, coveredIn, Sized}
+use Rattle.work.specs.Layout.{countPlace}
+use Rattle.search.specs.Look.{productAt, rowAt, rowsAt, coveredIn, Sized}
 
 -- The atoms of a channel end inside the words.
 pub sized-end : (w : List ℕ) (rows r c k : ℕ) → Sized w rows → r < rows → c < 4 → k ≡ getD w (countPlace r c) 0 → 103 * r + 4 + 25 * c + k ≤ length w

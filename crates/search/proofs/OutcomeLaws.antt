@@ -1,8 +1,8 @@
 -- A product copied to the front of a buffer, and what an operation makes of it there.
-use mathlib.Core.Path.{_≡_, refl, sym, ap, subst, _∙_}
+use mathlib.Core.Path.{_≡_, sym, ap, subst, _∙_}
 use mathlib.Core.List.{List, [], _∷_, _++_}
-use mathlib.Core.Option.{Option, none, some}
-use Prim.Native.Nat.{ℕ, _+_, _-_, _<_, _≤_}
+use mathlib.Core.Option.{none, some}
+use Prim.Native.Nat.{ℕ, _+_, _-_, _≤_}
 use native.Mathlib.Omega.{arith}
 use lib.ListN.{length}
 use Rattle.common.specs.Front.{front}
@@ -14,9 +14,8 @@ use Rattle.atoms.specs.Receive.{received}
 use Rattle.atoms.specs.Ranges.{leftOf, Within, Added}
 use Rattle.atoms.specs.declared.products.Left.{Left}
 use Rattle.atoms.specs.declared.products.Left.the-variants as left
-use Rattle.search.specs.Outcomes.{Sent, changedTo, FewLeft}
-use Rattle.search.specs.declared.outcomes.Change.{Change}
-use Rattle.search.specs.declared.outcomes.Change.the-variants.{Impossible, To}
+use Rattle.search.specs.Outcomes.{Sent}
+use Rattle.search.specs.declared.outcomes.Change.the-variants.{Impossible}
 
 -- l is the buffer b with the words of w from f up to t in front.
 module _ (w b l : List ℕ) (f t : ℕ) (e : l ≡ front (part f t w) b) (h : t ≤ length w) where

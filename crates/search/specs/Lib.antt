@@ -2,3 +2,6 @@
 pub mod Outcomes
 pub mod Look
 pub mod Changes
+pub mod Standing
+pub mod Visits
+pub mod Searching

@@ -2,7 +2,7 @@
 use mathlib.Core.Path.{_≡_}
 use mathlib.Core.List.{List, [], _∷_, _++_}
 use mathlib.Core.Option.{Option, none, some}
-use Prim.Native.Nat.{ℕ, _+_, _≤_}
+use Prim.Native.Nat.{ℕ, _≤_}
 use Rattle.common.specs.Part.{part}
 use Rattle.atoms.specs.Normal.{normal}
 use Rattle.search.specs.declared.outcomes.Change.{Change}

@@ -1,3 +1,7 @@
-// The search: outcomes of moves, the look over rows. All functions here are inner so far: their callers have proved what they ask for.
+// The search of a table. Public is `searches::search`; all other functions here are inner: their callers have proved what they ask for.
 pub mod look;
 pub mod outcomes;
+pub mod passes;
+pub mod runs;
+pub mod searches;
+pub mod visits;

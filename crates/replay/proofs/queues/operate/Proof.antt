@@ -1,4 +1,5 @@
 -- Known by its case, an operation is done by the function for it; a marked one changes nothing.
+use native.Mathlib.Omega.{arith}
 use Rattle.replay.proofs.QueueLaws.{done-quiet, done-lost}
 use Rattle.replay.proofs.OperateLaws.{done-as, ranged-as}
 use borrow.Author.Needs.{needs}
@@ -24,7 +25,7 @@ send-on-requires : tie.Need-send-on-requires
 send-on-requires c κs =
     let d = c .before .before .before in
     let r = ranged-as (d .operation .given .1) (d .before .before .before .before .before .pre .0) in
-    (r .0, r .1, search needs)
+    (r .0, omega (arith, r .1), search needs)
 
 same-length : tie.Need-same-length
 same-length c = search needs

@@ -49,7 +49,7 @@ returns : tie.Need-returns
 returns c = done-receive _ _ _ _ (omega arith) (search needs) (omega arith) (cc)
 
 returns-2 : tie.Need-returns-2
-returns-2 c = other-there _ _ _ _ (omega arith) (search needs) (omega arith) (λ e. c .if2 .left (c .before .wide .ensures ∙ e))
+returns-2 c = other-there _ _ _ _ (omega arith) (search needs) (omega arith) (λ e. c .if2 .left (c .before .wide .ensures .0 ∙ e))
 
 returns-3 : tie.Need-returns-3
 returns-3 c = nothing-there _ _ _ _ (omega arith) (search needs) (omega arith)

@@ -1,7 +1,7 @@
 -- The transition of that number, where the table has it, is the move that the word plays.
 use native.Mathlib.Omega.{arith}
 use Rattle.table.proofs.GoodLaws.{transition-there}
-use Rattle.replay.proofs.OperateLaws.{ranged-at}
+use Rattle.table.proofs.SystemLaws.{transition-ranged}
 use Rattle.replay.proofs.TurnLaws.{turn-past, turn-there}
 use borrow.Author.Needs.{needs}
 use Rattle.replay.proofs.turns.play_word.Statement.{statement}
@@ -16,7 +16,7 @@ transition-at-requires c κs = transition-there _ _ (c .before .before .before .
 play-move-requires : tie.Need-play-move-requires
 play-move-requires c κs =
     let d = c .before .before in
-    (ranged-at _ _ _ (d .before .before .before .before .before .before .pre .0) (omega arith) (d .transition-at .ensures), search needs)
+    (transition-ranged _ _ (d .before .before .before .before .before .before .pre .0) _ _ (d .transition-at .ensures) (omega arith), search needs)
 
 same-length : tie.Need-same-length
 same-length c = search needs

@@ -1,4 +1,3 @@
-use mathlib.Core.Path.{_≡_}
 use native.Mathlib.Omega.{arith}
 use Rattle.search.proofs.LookLaws.{sized-end, changed-channel, other-channel}
 use borrow.Author.Needs.{needs}

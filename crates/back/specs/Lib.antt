@@ -1,0 +1,2 @@
+-- What going back over one move leaves in local memory.
+pub mod Needs

@@ -1,0 +1,2 @@
+-- The laws of contents in local memory.
+pub mod ContentsLaws

@@ -1,0 +1,2 @@
+-- The channels' contents as local memory holds them.
+pub mod Contents
