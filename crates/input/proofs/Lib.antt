@@ -1,0 +1,2 @@
+-- Laws of reading, for the proofs beside them.
+pub mod ReadLaws

@@ -1,0 +1,2 @@
+-- What reading comes to.
+pub mod Reading
