@@ -41,6 +41,37 @@ uint32_t lcs_receive(uint16_t *p, size_t length, uint8_t message);
    4: refused; the refusal's number, the input (0, the table), and the place in it. */
 uint32_t lcs_check_table(const uint8_t *table, size_t length, uint64_t out[3]);
 
+/* Searches a table for a way to a bad state. The work table has room for as many rows as it has
+   times 103 words, but at most 1,024. Fills all three places of out:
+   0: safe; the rows made, 0, 0.
+   1: unsafe; the rows made, the steps of a run to a bad state, 0.
+   2: rows full; the rows made, and the row and the transition whose outcome there is no room for.
+   3: atoms full; the rows made, and the row and the transition whose outcome has a product of more
+      than 24 atoms.
+   4: refused; the refusal's number, the input, and the place. A table is refused as by
+      lcs_check_table. Then, with input 3, 7: the work table has under 103 words; 8: the run buffer
+      has under twice as many words as there is room for rows. The place is the length.
+   The rows made stand in the first words of the work table, 103 to a row: its state, the row and the
+   transition it was made by (65,535 both in row 0), then for each of 4 channels a count and 24
+   atoms; atoms past the count, and channels that the table lacks, are 0. With unsafe the run stands
+   in the first words of the run buffer, a word to a step: the transition, plus 32,768 where the
+   message sent was lost. All other words keep their values. */
+uint32_t lcs_search(const uint8_t *table, size_t table_length, uint16_t *work, size_t work_length,
+                    uint16_t *run, size_t run_length, uint64_t out[3]);
+
+/* Replays a run on a table, from the start with every channel empty. A word of the run is a step, as
+   lcs_search writes it; steps are numbered from 0. All words are played, and the last state decides.
+   Fills all three places of out:
+   0: reaches bad; the steps, 0, 0.
+   1: ends elsewhere; the last state, 0, 0.
+   2: stuck; the first step that cannot be taken, 0, 0: its transition does not exist or does not
+      start in the present state, or it marks a loss and is no send, or it receives what is not at
+      the head of its channel.
+   4: refused; the refusal's number, the input, and the place. A table is refused as by
+      lcs_check_table. Then 6, with input 2 and place 0: the run has over 2,048 words. */
+uint32_t lcs_replay(const uint8_t *table, size_t table_length, const uint16_t *run,
+                    size_t run_length, uint64_t out[3]);
+
 #ifdef __cplusplus
 }
 #endif

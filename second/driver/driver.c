@@ -53,6 +53,16 @@ static uint32_t check_table(const struct lent *a)
     return lcs_check_table(BYTES(a[0]), NUMBERS(a[1]));
 }
 
+static uint32_t search(const struct lent *a)
+{
+    return lcs_search(BYTES(a[0]), WORDS(a[1]), WORDS(a[2]), NUMBERS(a[3]));
+}
+
+static uint32_t replay(const struct lent *a)
+{
+    return lcs_replay(BYTES(a[0]), WORDS(a[1]), NUMBERS(a[2]));
+}
+
 /* By their numbers: the order is that of `Function` in the second program. */
 static const struct function {
     uint32_t arguments;
@@ -62,6 +72,8 @@ static const struct function {
     {1, normal},
     {2, receive},
     {2, check_table},
+    {4, search},
+    {3, replay},
 };
 
 enum { FUNCTIONS = sizeof functions / sizeof functions[0], ARGUMENTS_MAX = 5 };

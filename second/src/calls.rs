@@ -3,7 +3,9 @@
 //! A function is added here in three places: its number, the call that is made of its arguments, and
 //! how the second program answers it.
 
-use crate::answers::{lcs_check_table, lcs_contained, lcs_normal, lcs_receive};
+use crate::answers::{
+    lcs_check_table, lcs_contained, lcs_normal, lcs_receive, lcs_replay, lcs_search, Answer,
+};
 use std::{fmt, io};
 
 /// A function of the C library. Its number is its place in the driver's table.
@@ -13,6 +15,8 @@ pub enum Function {
     Normal = 1,
     Receive = 2,
     CheckTable = 3,
+    Search = 4,
+    Replay = 5,
 }
 
 /// What is lent to a call. A plain number is one of `Numbers`.
@@ -60,7 +64,9 @@ pub trait Library {
 }
 
 /// What stands in the three places for an answer's numbers before a call, which must fill them all.
-const NOT_FILLED: [u64; 3] = [0xDEAD_BEEF_0BAD_F00D; 3];
+fn not_filled() -> Lent {
+    Lent::Numbers(vec![0xDEAD_BEEF_0BAD_F00D; 3])
+}
 
 impl Call {
     pub fn contained(p: Vec<u16>, q: Vec<u16>) -> Call {
@@ -77,8 +83,19 @@ impl Call {
     }
 
     pub fn check_table(table: Vec<u8>) -> Call {
-        let numbers = Lent::Numbers(NOT_FILLED.to_vec());
-        Call::of(Function::CheckTable, vec![Lent::Bytes(table), numbers])
+        let lent = vec![Lent::Bytes(table), not_filled()];
+        Call::of(Function::CheckTable, lent)
+    }
+
+    pub fn search(table: Vec<u8>, work: Vec<u16>, run: Vec<u16>) -> Call {
+        let (work, run) = (Lent::Words(work), Lent::Words(run));
+        let lent = vec![Lent::Bytes(table), work, run, not_filled()];
+        Call::of(Function::Search, lent)
+    }
+
+    pub fn replay(table: Vec<u8>, run: Vec<u16>) -> Call {
+        let lent = vec![Lent::Bytes(table), Lent::Words(run), not_filled()];
+        Call::of(Function::Replay, lent)
     }
 
     fn of(function: Function, lent: Vec<Lent>) -> Call {
@@ -94,9 +111,14 @@ impl Call {
             // A message is one byte.
             (Function::Receive, [Lent::Words(p), Lent::Numbers(n)]) => lcs_receive(p, n[0] as u8),
             (Function::CheckTable, [Lent::Bytes(table), Lent::Numbers(out)]) => {
-                let (answer, numbers) = lcs_check_table(table);
-                out.copy_from_slice(&numbers);
-                answer
+                filled(out, lcs_check_table(table))
+            }
+            (
+                Function::Search,
+                [Lent::Bytes(table), Lent::Words(work), Lent::Words(run), Lent::Numbers(out)],
+            ) => filled(out, lcs_search(table, work, run)),
+            (Function::Replay, [Lent::Bytes(table), Lent::Words(run), Lent::Numbers(out)]) => {
+                filled(out, lcs_replay(table, run))
             }
             (function, lent) => panic!("{function:?} does not take {lent:?}"),
         };
@@ -106,4 +128,10 @@ impl Call {
             wrote_outside: false,
         }
     }
+}
+
+/// The answer's code, when its numbers are put where they belong.
+fn filled(out: &mut [u64], (code, numbers): Answer) -> u32 {
+    out.copy_from_slice(&numbers);
+    code
 }

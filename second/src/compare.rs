@@ -3,9 +3,11 @@
 //! A case depends on the seed and its own number only, so that a seed and a case number name it.
 
 mod products;
+mod replays;
+mod searches;
 mod tables;
 
-use crate::calls::{Call, Library, Reply};
+use crate::calls::{Call, Lent, Library, Reply};
 use crate::driver::Driver;
 use crate::random::Random;
 use std::io::{self, Write};
@@ -43,6 +45,14 @@ impl Kind {
     }
 }
 
+/// The number of a refusal. The numbers of an answer are lent last.
+fn refusal(reply: &Reply) -> Option<u64> {
+    match (reply.answer, reply.lent.last()) {
+        (4, Some(Lent::Numbers(numbers))) => numbers.first().copied(),
+        _ => None,
+    }
+}
+
 /// All comparisons, in the order in which they are made.
 pub const COMPARISONS: &[Comparison] = &[
     products::CONTAINED,
@@ -50,6 +60,8 @@ pub const COMPARISONS: &[Comparison] = &[
     products::NORMAL,
     products::ADD,
     CHECK_TABLE,
+    searches::SEARCH,
+    replays::REPLAY,
 ];
 
 /// The comparison of the table check.

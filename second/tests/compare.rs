@@ -180,9 +180,7 @@ fn slips_of_the_table_check_are_found() {
     slip(|call, reply| {
         if let (0, Lent::Numbers(before)) = (reply.answer, &call.lent[1]) {
             let before = before[2];
-            if let Lent::Numbers(numbers) = &mut reply.lent[1] {
-                numbers[2] = before;
-            }
+            numbers(reply)[2] = before;
         }
     });
     // A limit off by one: 1,025 transitions taken for good.
@@ -197,15 +195,86 @@ fn slips_of_the_table_check_are_found() {
     // A place off by a record.
     slip(|_, reply| {
         if refused(reply, 5) {
-            if let Lent::Numbers(numbers) = &mut reply.lent[1] {
-                numbers[2] -= 6;
-            }
+            numbers(reply)[2] -= 6;
         }
     });
 }
 
-fn refused(reply: &Reply, number: u64) -> bool {
-    matches!(&reply.lent[1], Lent::Numbers(numbers) if reply.answer == 4 && numbers[0] == number)
+/// The three numbers of an answer are lent last.
+fn numbers(reply: &mut Reply) -> &mut Vec<u64> {
+    match reply.lent.last_mut() {
+        Some(Lent::Numbers(numbers)) => numbers,
+        _ => panic!("no numbers"),
+    }
+}
+
+fn refused(reply: &mut Reply, number: u64) -> bool {
+    reply.answer == 4 && numbers(reply)[0] == number
+}
+
+#[test]
+fn slips_of_the_search_are_found() {
+    found("search", |_, reply| reply.wrote_outside = true);
+    // Rows and steps exchanged.
+    found("search", |_, reply| {
+        if reply.answer == 1 {
+            numbers(reply).swap(0, 1);
+        }
+    });
+    // A word behind the last row.
+    found("search", |_, reply| {
+        let rows = numbers(reply)[0] as usize;
+        if reply.answer < 4 {
+            if let Some(behind) = words_mut(&mut reply.lent[1]).get_mut(103 * rows) {
+                *behind = 0;
+            }
+        }
+    });
+    // The last word of the run buffer, which no run ever needs.
+    found("search", |_, reply| {
+        if let Some(last) = words_mut(&mut reply.lent[2]).last_mut() {
+            *last ^= 1;
+        }
+    });
+    // A loss that is not marked.
+    found("search", |_, reply| {
+        let steps = numbers(reply)[1] as usize;
+        if reply.answer == 1 {
+            for word in &mut words_mut(&mut reply.lent[2])[..steps] {
+                *word &= 0x7FFF;
+            }
+        }
+    });
+    // A run buffer that is one word short taken for long enough.
+    found("search", |call, reply| {
+        let room = (words(&call.lent[1]).len() / 103).min(1024);
+        if refused(reply, 8) && words(&call.lent[2]).len() + 1 == 2 * room {
+            reply.answer = 0;
+        }
+    });
+}
+
+#[test]
+fn slips_of_the_replay_are_found() {
+    found("replay", |_, reply| reply.wrote_outside = true);
+    // The steps told for the state.
+    found("replay", |call, reply| {
+        if reply.answer == 1 {
+            numbers(reply)[0] = words(&call.lent[1]).len() as u64;
+        }
+    });
+    // Steps numbered from 1.
+    found("replay", |_, reply| {
+        if reply.answer == 2 {
+            numbers(reply)[0] += 1;
+        }
+    });
+    // A run of 2,049 words taken.
+    found("replay", |call, reply| {
+        if refused(reply, 6) && words(&call.lent[1]).len() == 2049 {
+            reply.answer = 0;
+        }
+    });
 }
 
 #[test]
@@ -215,6 +284,8 @@ fn every_call_of_a_comparison_is_its_own_function() {
     assert_eq!(function("receive"), Function::Receive);
     assert_eq!(function("normal"), Function::Normal);
     assert_eq!(function("add"), Function::Normal);
+    assert_eq!(function("search"), Function::Search);
+    assert_eq!(function("replay"), Function::Replay);
     assert_eq!(CHECK_TABLE.case(1, 0).function, Function::CheckTable);
 }
 

@@ -1,3 +1,5 @@
 -- What the C functions answer and leave in lent memory: one definition each, so that there is one possible answer.
 pub mod Expressions
+pub mod Replays
+pub mod Searches
 pub mod Tables

@@ -4,8 +4,8 @@
 //! The first cases are the same for every seed: a small table damaged everywhere, and tables at and
 //! past each limit. The later ones are random tables, good and damaged.
 
-use super::{Comparison, Kind};
-use crate::calls::{Call, Lent, Reply};
+use super::{refusal, Comparison, Kind};
+use crate::calls::Call;
 use crate::random::{self, Random};
 use crate::record::push_record;
 use crate::table::{STATES_MAX, TRANSITIONS_MAX};
@@ -25,14 +25,6 @@ pub const CHECK_TABLE: Comparison = Comparison {
         Kind::new("too many", 1, |_, reply| refusal(reply) == Some(6)),
     ],
 };
-
-/// The number of a refusal.
-fn refusal(reply: &Reply) -> Option<u64> {
-    match (reply.answer, reply.lent.last()) {
-        (4, Some(Lent::Numbers(numbers))) => numbers.first().copied(),
-        _ => None,
-    }
-}
 
 fn check_table_call(random: &mut Random, case: usize) -> Call {
     static FIXED: OnceLock<Vec<Vec<u8>>> = OnceLock::new();
