@@ -1,0 +1,5 @@
+-- The laws of the judge.
+pub mod LookLaws
+pub mod OutcomeLaws
+pub mod StateLaws
+pub mod MoveLaws

@@ -1,0 +1,21 @@
+use native.Mathlib.Omega.{arith}
+use Rattle.judge.proofs.LookLaws.{from-is}
+use borrow.Author.Needs.{needs}
+use Rattle.judge.proofs.look.product_from.Statement.{statement}
+use Rattle.judge.proofs.look.product_from.Tie as tie
+
+product-number-requires : tie.Need-product-number-requires
+product-number-requires c κs = search needs
+
+mul-result : tie.Need-mul-result
+mul-result c = search needs
+
+shared-slice-read-result : tie.Need-shared-slice-read-result
+shared-slice-read-result c = search needs
+
+returns : tie.Need-returns
+returns c = from-is _ _ _ _ _ _ (c .before .product-number .ensures) (cc)
+
+pub product-from-spec : {M : Type 1} → statement M
+product-from-spec =
+    tie.close (tie.spec product-number-requires mul-result shared-slice-read-result returns)
