@@ -1,2 +1,3 @@
 -- The parts agree.
 pub mod SafeLaws
+pub mod CallLaws

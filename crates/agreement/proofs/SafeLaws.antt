@@ -1,31 +1,26 @@
 -- Where the search says safe, the judge accepts its rows; so the system is safe.
 use mathlib.Core.Path.{_≡_, refl, sym, ap, subst, _∙_}
 use mathlib.Core.Bool.{true, false}
-use mathlib.Core.Logic.{_⊎_, inl, inr, _↔_}
-use mathlib.Core.List.{List, [], _∷_, map, List·Memᴰ}
+use mathlib.Core.List.{List, map}
 use mathlib.Core.Option.{Option, none, some, Option·map, Option·none-ne-some, Option·some-injective}
-use Prim.Native.Nat.{ℕ, zero, suc, _<_, _≤_}
+use Prim.Native.Nat.{ℕ, zero, suc, _≤_}
 use native.Mathlib.Omega.{arith}
-use lib.ListN.{length}
 use Rattle.common.specs.First.{isIn}
 use Rattle.common.proofs.AtLaws.{At, at-below, at-same, at-map, mem-at}
 use Rattle.common.proofs.BoolLaws.{clash}
 use Rattle.common.proofs.FirstLaws.{in-iff}
 use Rattle.meaning.specs.Systems.{Move, System, MoveOf, WellMade, Config, startOf, Safe}
-use Rattle.meaning.specs.Outcomes.{Outcome}
 use Rattle.meaning.proofs.RowLaws.{lowest-in}
 use Rattle.atoms.proofs.NormalLaws.{normal-words}
 use Rattle.rows.specs.Rows.{Row, meantRow, RowOf, normalRow, covers}
 use Rattle.rows.specs.Outcomes.{outcome, InOutcome}
-use Rattle.rows.proofs.CoverLaws.{covers-iff, covers-self}
+use Rattle.rows.proofs.CoverLaws.{covers-iff}
 use Rattle.rows.proofs.OutcomeLaws.{outcome-iff, impossible-iff}
 use Rattle.rows.proofs.RowOfLaws.{outcome-of}
-use Rattle.explore.specs.Search.{Entry, safe, Found, search}
+use Rattle.explore.specs.Search.{Entry, safe, search}
 use Rattle.explore.proofs.TestLaws.{covered-iff}
-use Rattle.explore.specs.Found.{Settled, never, within, Done, Linked, Rows, Says}
-use Rattle.explore.proofs.WalkLaws.{Right, search-right}
+use Rattle.explore.specs.Found.{Settled, never, within, Rows, Says}
 use Rattle.findings.specs.Search.{outcomeAt, badRow, frameOf, firstEntry}
-use Rattle.findings.proofs.FindLaws.{Made, outcome-made}
 use Rattle.judgement.specs.Judge.{accepted, judge}
 use Rattle.judgement.proofs.SettledLaws.{In, Held, Kept, empty, inside}
 use Rattle.judgement.proofs.ExactLaws.{NoBad, AllKept, accepted-iff}
