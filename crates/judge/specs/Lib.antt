@@ -2,3 +2,5 @@
 pub mod Look
 pub mod Outcomes
 pub mod States
+pub mod Moves
+pub mod Judging
