@@ -39,7 +39,7 @@ use Rattle.agreement.proofs.SafeLaws.{safe-safe}
 
 module _ (t : List ℕ) where
   -- What holds of each refusal, and of what the search finds of a good table, holds of every result.
-  every-result : (P : Result → Type 0) (work run : ℕ) → ((f : Fault) (at : ℕ) → P (unwritten (Refused f at))) → P (unwritten (SmallWork work)) → P (unwritten (SmallRun run))
+  pub every-result : (P : Result → Type 0) (work run : ℕ) → ((f : Fault) (at : ℕ) → P (unwritten (Refused f at))) → P (unwritten (SmallWork work)) → P (unwritten (SmallRun run))
       → ((s : Shape) (g : GoodTable t s) (x : Result) → Finding t s g (roomOf work) x → P x) → P (searchOf t work run)
   unfolding searchOf
   every-result P work run refused short-work short-run finds = go (checkTable t) refl

@@ -1,3 +1,4 @@
 -- The parts agree.
 pub mod SafeLaws
 pub mod CallLaws
+pub mod JudgedLaws

@@ -7,3 +7,4 @@ pub mod OpenLaws
 pub mod JudgingLaws
 pub mod MemoryLaws
 pub mod AnswerLaws
+pub mod JudgeLaws

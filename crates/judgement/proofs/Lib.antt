@@ -3,3 +3,4 @@ pub mod SettledLaws
 pub mod ExactLaws
 pub mod SoundLaws
 pub mod InvariantLaws
+pub mod Examples
