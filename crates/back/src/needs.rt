@@ -4,7 +4,7 @@ ghost use mathlib.Core.Path.{_≡_};
 ghost use Prim.Native.Nat.{_<_, _≤_};
 ghost use lib.ListN.{length};
 ghost use Rattle.back.specs.Needs.{Needed, PutFront, DropLast, Pushed};
-use table::numbers::wide;
+use reader::numbers::wide;
 
 // Puts a message in front of its channel's needed word. Inner.
 pub fn put_front(store: &mut [u8], ends: &mut [usize], channel: usize, message: usize)

@@ -11,7 +11,7 @@ use Rattle.common.proofs.ChoiceLaws.{true-cases}
 use Rattle.common.proofs.StoreLaws.{put-none, put-next}
 use Rattle.atoms.specs.Masks.{AtomOf, atomTest}
 use Rattle.atoms.proofs.AtomLaws.{atom-test}
-use Rattle.table.specs.Bytes.{numberAt}
+use Rattle.reader.specs.Bytes.{numberAt}
 use Rattle.table.proofs.PassLaws.{below-fails}
 use Rattle.table.specs.declared.faults.Fault.{Fault}
 use Rattle.lists.specs.Reading.{read, fails, readMany, readAtom}

@@ -16,7 +16,7 @@ use Rattle.common.proofs.StandLaws.{Stands, stands-inside, stands-get}
 use Rattle.atoms.specs.Masks.{AtomOf}
 use Rattle.atoms.proofs.AtomLaws.{atom-test}
 use Rattle.rows.specs.Rows.{Row}
-use Rattle.table.specs.Bytes.{byteAt, numberAt}
+use Rattle.reader.specs.Bytes.{byteAt, numberAt}
 use Rattle.table.specs.Listing.{listed}
 use Rattle.table.proofs.ListingLaws.{listed-length}
 use Rattle.table.specs.declared.checks.Shape.{Shape}

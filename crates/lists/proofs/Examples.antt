@@ -6,7 +6,7 @@ use lib.ListN.{take}
 use Rattle.common.specs.Choice.{ifLt, ifEq, ifTrue}
 use Rattle.atoms.specs.Masks.{atomTest, star, bit}
 use Rattle.rows.specs.Rows.{Row}
-use Rattle.table.specs.Bytes.{numberAt}
+use Rattle.reader.specs.Bytes.{numberAt}
 use Rattle.table.specs.Listing.{listed}
 use Rattle.table.specs.declared.faults.Fault.the-variants.{Count}
 use Rattle.table.specs.declared.checks.Shape.{Shape}

@@ -10,7 +10,7 @@ use Rattle.common.specs.Each.{Each}
 use Rattle.common.proofs.ChoiceLaws.{lt-cases}
 use Rattle.atoms.specs.Masks.{AtomOf, AtomsOf}
 use Rattle.rows.specs.Rows.{Row}
-use Rattle.table.specs.Bytes.{byteAt, numberAt}
+use Rattle.reader.specs.Bytes.{byteAt, numberAt}
 use Rattle.table.proofs.PassLaws.{below-fails, below-passes}
 use Rattle.table.specs.declared.faults.Fault.{Fault}
 use Rattle.table.specs.declared.faults.Fault.the-variants.{Length}

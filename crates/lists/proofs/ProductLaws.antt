@@ -7,7 +7,7 @@ use lib.ListN.{length, set, length-set, length-append}
 use Rattle.common.specs.Store.{putAt}
 use Rattle.common.proofs.ChoiceLaws.{lt-then, lt-else}
 use Rattle.common.proofs.StoreLaws.{put-none, put-next, put-then, put-length}
-use Rattle.table.specs.Bytes.{byteAt}
+use Rattle.reader.specs.Bytes.{byteAt}
 use Rattle.table.specs.declared.faults.Fault.{Fault}
 use Rattle.lists.specs.Format.{joined}
 use Rattle.lists.specs.Reading.{read, fails, readMany, readAtom, readProduct}

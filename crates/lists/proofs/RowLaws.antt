@@ -13,7 +13,7 @@ use Rattle.common.proofs.BoolLaws.{either}
 use Rattle.common.proofs.ChoiceLaws.{lt-then, lt-else}
 use Rattle.common.proofs.StoreLaws.{put-one}
 use Rattle.rows.specs.Rows.{Row}
-use Rattle.table.specs.Bytes.{numberAt}
+use Rattle.reader.specs.Bytes.{numberAt}
 use Rattle.table.specs.Listing.{listed}
 use Rattle.table.proofs.PassLaws.{below-fails, below-passes, equal-passes}
 use Rattle.table.specs.declared.faults.Fault.{Fault}

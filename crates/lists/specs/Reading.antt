@@ -5,7 +5,7 @@ use lib.ListN.{length, getD}
 use Rattle.common.specs.Choice.{ifLt, ifEq, ifTrue}
 use Rattle.atoms.specs.Masks.{atomTest}
 use Rattle.rows.specs.Rows.{Row}
-use Rattle.table.specs.Bytes.{byteAt, numberAt}
+use Rattle.reader.specs.Bytes.{byteAt, numberAt}
 use Rattle.table.specs.declared.faults.Fault.{Fault}
 use Rattle.table.specs.declared.faults.Fault.the-variants.{Cut, Kind, Length, Count, Field}
 use Rattle.table.specs.declared.checks.Shape.{Shape}

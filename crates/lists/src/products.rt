@@ -2,14 +2,14 @@
 ghost use mathlib.Core.Path.{_≡_};
 ghost use Prim.Native.Nat.{_+_, _*_, _<_, _≤_};
 ghost use lib.ListN.{length};
-ghost use Rattle.table.specs.Bytes.{numberAt};
+ghost use Rattle.reader.specs.Bytes.{numberAt};
 ghost use Rattle.lists.specs.Reading.{readMany, readAtom, readProduct};
 ghost use Rattle.lists.specs.Loading.{products};
 ghost use Rattle.lists.specs.Steps.{AtomTold, AtomsTold, ProductTold, ProductsTold};
 use atoms::masks::is_atom;
+use reader::numbers::byte_at;
 use table::Fault;
 use table::faults::Tested;
-use table::numbers::byte_at;
 
 // A record: where it starts, where its payload ends, and how many messages the table has.
 pub struct Frame {

@@ -8,9 +8,9 @@ ghost use Rattle.lists.specs.Steps.{Room, RowTold, wholeStep};
 use crate::products::Frame;
 use crate::products::Step;
 use crate::products::read_products;
+use reader::numbers::number_at;
 use table::Fault;
 use table::Shape;
-use table::numbers::number_at;
 
 // How much of the memory is filled: so many rows, products of rows, and atoms of products.
 pub struct Filled {

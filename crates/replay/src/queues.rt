@@ -6,8 +6,8 @@ ghost use Prim.Native.Nat.{_<_};
 ghost use Rattle.table.specs.Transitions.{operationOf};
 ghost use Rattle.meaning.specs.Systems.{Ranged, send, receive};
 ghost use Rattle.replay.specs.Queues.{Queues, canLose, Done};
+use reader::numbers::wide;
 use table::Operation;
-use table::numbers::wide;
 
 // Puts a message behind the others of its channel. Inner: there is room for it.
 fn send_on(store: &mut [u8], ends: &mut [usize], channel: usize, message: usize)

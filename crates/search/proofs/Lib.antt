@@ -1,7 +1,4 @@
 -- The laws of the search.
-pub mod OutcomeLaws
-pub mod LookLaws
-pub mod ChangeLaws
 pub mod StandingLaws
 pub mod VisitLaws
 pub mod PassLaws

@@ -10,7 +10,7 @@ use Rattle.meaning.specs.Systems.{System}
 use Rattle.rows.specs.Rows.{Row}
 use Rattle.explore.specs.Search.{Entry, safe, Visit, on, stop, tests, Pass, through, ended, pass, Found, walk}
 use Rattle.findings.specs.Search.{frameOf, outcomeAt}
-use Rattle.search.specs.Look.{rowAt}
+use Rattle.outcome.specs.Look.{rowAt}
 use Rattle.search.specs.Standing.{entries, Standing, Grown}
 use Rattle.search.specs.Visits.{Tests, goes, stops, Passes, all, cut, Walks, whole, short}
 use Rattle.search.specs.declared.visits.Stop.{Stop}

@@ -26,8 +26,8 @@ use Rattle.explore.specs.Search.{Entry, covered}
 use Rattle.explore.specs.Found.{Rows}
 use Rattle.findings.specs.Search.{frameOf, firstEntry}
 use Rattle.findings.proofs.RowLaws.{entry-row-of, entry-normal, entry-narrow}
-use Rattle.search.specs.Look.{productAt, rowAt, rowsAt, coveredIn, Sized}
-use Rattle.search.proofs.LookLaws.{product-there}
+use Rattle.outcome.specs.Look.{productAt, rowAt, rowsAt, coveredIn, Sized}
+use Rattle.outcome.proofs.LookLaws.{product-there}
 use Rattle.search.specs.Standing.{entryAt, entriesAt, entries, storedOf, stored, Standing, Grown}
 
 module _ (S : System) where

@@ -32,12 +32,12 @@ use Rattle.explore.specs.Search.{Entry, covered, on, tests}
 use Rattle.explore.proofs.WalkLaws.{Kept, tests-kept}
 use Rattle.findings.specs.Search.{tooWide, frameOf, firstEntry, outcomeAt, badRow}
 use Rattle.findings.proofs.RowLaws.{wide-one, wide-none, outcome-row-of, entry-row-of, entry-narrow}
-use Rattle.search.specs.Look.{rowAt, outcomeRow, coveredIn, Sized, productAt}
+use Rattle.outcome.specs.Look.{rowAt, outcomeRow, coveredIn, Sized, productAt}
 use Rattle.search.specs.Standing.{entryAt, entries, storedOf, stored, Standing}
 use Rattle.search.specs.Visits.{Tests, goes, stops}
-use Rattle.search.specs.Changes.{changedIn, FewChanged}
-use Rattle.search.specs.declared.outcomes.Changed.{Changed}
-use Rattle.search.specs.declared.outcomes.Changed.the-variants as changed
+use Rattle.outcome.specs.Changes.{changedIn, FewChanged}
+use Rattle.outcome.specs.declared.outcomes.Changed.{Changed}
+use Rattle.outcome.specs.declared.outcomes.Changed.the-variants as changed
 use Rattle.search.specs.declared.visits.Stop.the-variants.{Unsafe, AtomsFull, RowsFull}
 use Rattle.search.specs.declared.visits.Visited.{Visited}
 use Rattle.search.specs.declared.visits.Visited.the-variants.{On, Ends}

@@ -9,7 +9,7 @@ use Rattle.work.specs.Layout.{Stored, Holds}
 use Rattle.explore.specs.Search.{Entry}
 use Rattle.explore.specs.Found.{Rows}
 use Rattle.findings.specs.Search.{frameOf, firstEntry}
-use Rattle.search.specs.Look.{rowAt}
+use Rattle.outcome.specs.Look.{rowAt}
 
 module _ (S : System) where
   -- Row i, with the row and the transition that it came from.

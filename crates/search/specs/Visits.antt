@@ -8,7 +8,7 @@ use Rattle.meaning.specs.Systems.{System}
 use Rattle.rows.specs.Rows.{Row}
 use Rattle.explore.specs.Search.{Verdict, unsafe, atomsFull, rowsFull, safe, on, stop, tests, through, ended, pass, walk}
 use Rattle.findings.specs.Search.{frameOf}
-use Rattle.search.specs.Look.{rowAt}
+use Rattle.outcome.specs.Look.{rowAt}
 use Rattle.search.specs.Standing.{entries, Grown}
 use Rattle.search.specs.declared.visits.Stop.{Stop}
 use Rattle.search.specs.declared.visits.Stop.the-variants.{Unsafe, AtomsFull, RowsFull}

@@ -6,12 +6,12 @@ use Prim.Native.Nat.{ℕ}
 use Rattle.common.specs.Choice.{ifEq}
 use Rattle.table.specs.Checking.{checkTable}
 use Rattle.table.specs.Answers.{Answer, good, refused, answer, numberOf, placeOf}
-use Rattle.table.specs.Walks.{walkRecords}
+use Rattle.reader.specs.Walks.{walkRecords}
 use Rattle.table.specs.declared.faults.Fault.{Fault}
 use Rattle.table.specs.declared.faults.Fault.the-variants.{Cut, Kind, Length, Count, Field, Rising}
 use Rattle.table.specs.declared.checks.Checked.{Checked}
 use Rattle.table.specs.declared.checks.Checked.the-variants.{Good, Refused}
-use Rattle.table.specs.declared.reader.Walk.{Walk}
+use Rattle.reader.specs.declared.reader.Walk.{Walk}
 
 -- Two answers that keep the promise of check_table are equal.
 pub one-answer : (t : List ℕ) (r r′ : Checked) → r ≡ checkTable t → r′ ≡ checkTable t → r ≡ r′

@@ -5,19 +5,19 @@ use Prim.Native.Nat.{ℕ}
 use lib.ListN.{take}
 use Rattle.common.specs.Choice.{ifLt, ifEq}
 use Rattle.meaning.specs.Systems.{System, send, receive}
-use Rattle.table.specs.Bytes.{numberAt}
-use Rattle.table.specs.Records.{partOf, recordAt}
+use Rattle.reader.specs.Bytes.{numberAt}
+use Rattle.reader.specs.Records.{partOf, recordAt}
 use Rattle.table.specs.Fields.{headerOf, entryOf, headerFields, operationFields, transitionFields, badFields}
 use Rattle.table.specs.Checking.{framedAt, kindAt, readHeader, transitionStep, scanTransitions, badStep, scanBads, checkRest, checkTable}
 use Rattle.table.specs.Answers.{Answer, refused, tableAnswer}
 use Rattle.table.specs.Transitions.{operationFrom, transitionAt}
 use Rattle.table.specs.Listing.{listed}
 use Rattle.table.specs.Systems.{GoodTable, badAt, systemOf}
-use Rattle.table.specs.Walks.{walkFrom, walkRecords}
+use Rattle.reader.specs.Walks.{walkFrom, walkRecords}
 use Rattle.table.specs.declared.faults.Fault.the-variants.{Field}
 use Rattle.table.specs.declared.checks.Shape.{Shape}
 use Rattle.table.specs.declared.checks.Checked.the-variants.{Good, Refused}
-use Rattle.table.specs.declared.reader.Walk.the-variants.{Whole}
+use Rattle.reader.specs.declared.reader.Walk.the-variants.{Whole}
 
 -- Records of table A: 3 states, 1 channel, 2 messages, start 0; 0 to 0 sends 0; 0 to 1 sends 1; 1 to 2 receives 0; bad 2.
 abbrev header : ℕ → List ℕ

@@ -8,7 +8,7 @@ use Rattle.table.specs.Checking.{transitionPlace, badPlace, afterBads, a
 use Rattle.table.specs.Transitions.{entryAt}
 use Rattle.table.specs.Systems.{GoodTable, badAt}
 use Rattle.table.proofs.EndLaws.{no-shape, same-shape}
-use Rattle.table.proofs.RecordLaws.{Framed}
+use Rattle.table.proofs.FrameLaws.{Framed}
 use Rattle.table.proofs.FieldLaws.{HeaderOk, EntryOk}
 use Rattle.table.proofs.ReadLaws.{HeaderRead, header-read}
 use Rattle.table.proofs.ScanLaws.{TransitionsRead, transitions-read, BadsRead, bads-read}

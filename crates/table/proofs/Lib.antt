@@ -1,7 +1,8 @@
 -- The laws of the definitions, as proofs and later crates cite them.
 pub mod EndLaws
 pub mod PassLaws
-pub mod RecordLaws
+mod PlaceLaws
+pub mod FrameLaws
 pub mod FieldLaws
 pub mod StepLaws
 pub mod ReadLaws
@@ -13,7 +14,5 @@ pub mod GoodLaws
 pub mod SystemLaws
 pub mod BadLaws
 pub mod WalkLaws
-mod PromiseLaws
-mod ReaderLaws
 pub mod AnswerLaws
 pub mod Examples

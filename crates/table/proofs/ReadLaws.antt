@@ -2,13 +2,13 @@
 use mathlib.Core.Path.{_≡_, refl, sym, subst}
 use mathlib.Core.List.{List}
 use Prim.Native.Nat.{ℕ, _<_}
-use Rattle.table.specs.Bytes.{numberAt}
-use Rattle.table.specs.Records.{partOf}
+use Rattle.reader.specs.Bytes.{numberAt}
+use Rattle.reader.specs.Records.{partOf}
 use Rattle.table.specs.Fields.{headerOf, entryOf}
 use Rattle.table.specs.Checking.{framedAt, andThen, readHeader, transitionStep, badStep}
 use Rattle.table.proofs.EndLaws.{no-header, no-next, no-next-end, no-rise}
 use Rattle.table.proofs.PassLaws.{below-passes, equal-fails}
-use Rattle.table.proofs.RecordLaws.{Framed, framed-passes}
+use Rattle.table.proofs.FrameLaws.{Framed, framed-passes}
 use Rattle.table.proofs.FieldLaws.{HeaderOk, header-ok, EntryOk, entry-ok, BadOk, bad-ok}
 use Rattle.table.specs.declared.faults.Fault.{Fault}
 use Rattle.table.specs.declared.faults.Tested.{Tested}

@@ -7,11 +7,11 @@ use native.Mathlib.Nat.{eq-or-lt-of-le}
 use native.Mathlib.Omega.{arith}
 use lib.ListN.{length}
 use Rattle.common.proofs.ChoiceLaws.{lt-cases}
-use Rattle.table.specs.Bytes.{numberAt}
-use Rattle.table.specs.Records.{partOf}
+use Rattle.reader.specs.Bytes.{numberAt}
+use Rattle.reader.specs.Records.{partOf}
 use Rattle.table.specs.Checking.{transitionPlace, transitionStep, scanTransitions, badStep, scanBads}
 use Rattle.table.proofs.EndLaws.{no-count, same-count}
-use Rattle.table.proofs.RecordLaws.{Framed}
+use Rattle.table.proofs.FrameLaws.{Framed}
 use Rattle.table.proofs.ReadLaws.{TransitionRead, transition-read, BadRead, bad-read}
 use Rattle.table.specs.declared.fields.Header.{Header}
 use Rattle.table.specs.declared.fields.Step.{Step}

@@ -3,8 +3,8 @@ use mathlib.Core.List.{List}
 use Prim.Native.Nat.{ℕ, zero, suc, _+_, _*_}
 use lib.ListN.{length}
 use Rattle.common.specs.Choice.{ifLt, ifEq}
-use Rattle.table.specs.Bytes.{numberAt}
-use Rattle.table.specs.Records.{partOf}
+use Rattle.reader.specs.Bytes.{numberAt}
+use Rattle.reader.specs.Records.{partOf}
 use Rattle.table.specs.Fields.{headerOf, entryOf, headerFields, transitionFields, badFields}
 use Rattle.table.specs.declared.faults.Fault.{Fault}
 use Rattle.table.specs.declared.faults.Fault.the-variants.{Cut, Kind, Length, Count}

@@ -3,7 +3,7 @@
 use mathlib.Core.List.{List}
 use Prim.Native.Nat.{ℕ, _+_}
 use Rattle.common.specs.Choice.{ifLt, ifEq}
-use Rattle.table.specs.Bytes.{byteAt, numberAt}
+use Rattle.reader.specs.Bytes.{byteAt, numberAt}
 use Rattle.table.specs.declared.faults.Fault.the-variants.{Field, Rising}
 use Rattle.table.specs.declared.fields.Header.{Header}
 use Rattle.table.specs.declared.fields.Entry.{Entry}

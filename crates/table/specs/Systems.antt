@@ -5,8 +5,8 @@ use mathlib.Core.List.{List, []}
 use Prim.Native.Nat.{ℕ}
 use Rattle.common.specs.First.{isIn}
 use Rattle.meaning.specs.Systems.{System, Move}
-use Rattle.table.specs.Bytes.{numberAt}
-use Rattle.table.specs.Records.{partOf}
+use Rattle.reader.specs.Bytes.{numberAt}
+use Rattle.reader.specs.Records.{partOf}
 use Rattle.table.specs.Checking.{badPlace, checkTable}
 use Rattle.table.specs.Transitions.{transitionAt, moveOf}
 use Rattle.table.specs.Listing.{listed}

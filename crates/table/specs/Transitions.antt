@@ -3,7 +3,7 @@ use mathlib.Core.List.{List}
 use Prim.Native.Nat.{ℕ}
 use Rattle.common.specs.Choice.{ifEq}
 use Rattle.meaning.specs.Systems as meaning
-use Rattle.table.specs.Records.{partOf}
+use Rattle.reader.specs.Records.{partOf}
 use Rattle.table.specs.Fields.{entryOf}
 use Rattle.table.specs.Checking.{transitionPlace}
 use Rattle.table.specs.declared.fields.Entry.{Entry}

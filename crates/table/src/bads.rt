@@ -4,8 +4,8 @@ ghost use Prim.Native.Nat.{_+_, _*_, _<_, _≤_};
 ghost use lib.ListN.{length};
 ghost use Rattle.table.specs.Systems.{GoodTable, badAt, badState};
 use crate::checks::Shape;
-use crate::numbers::number_at;
-use crate::records::part_of;
+use reader::numbers::number_at;
+use reader::records::part_of;
 
 // Bad state i. Inner: its record's bytes are there.
 pub fn bad_at(t: &[u8], s: Shape, i: usize) -> usize

@@ -14,8 +14,8 @@ use crate::fields::entry_of;
 use crate::fields::header_fields;
 use crate::fields::header_of;
 use crate::fields::transition_fields;
-use crate::numbers::number_at;
-use crate::reader::payload_from;
+use reader::numbers::number_at;
+use reader::reader::payload_from;
 
 // A good table: the header's numbers, how many transitions and how many bad states.
 // Transition i's record stands at 10 + 12 i, bad state i's at 10 + 12 transitions + 6 i.

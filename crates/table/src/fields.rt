@@ -5,8 +5,8 @@ ghost use Prim.Native.Nat.{_≤_};
 ghost use lib.ListN.{length};
 ghost use Rattle.table.specs.Fields.{headerOf, entryOf, headerFields, operationFields, transitionFields, badFields};
 use crate::faults::Fault;
-use crate::numbers::byte_at;
-use crate::numbers::number_at;
+use reader::numbers::byte_at;
+use reader::numbers::number_at;
 
 // A header's numbers.
 pub struct Header {

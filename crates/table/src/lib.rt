@@ -1,16 +1,12 @@
-// The table reader. Any bytes are taken; each gets its one answer: a good table's shape, or the first refusal.
+// The table check, and what a good table holds. Any bytes are taken; each gets its one answer: a good table's shape, or the first refusal.
 // A file for each subject; definitions that the contracts cite in specs/, their laws in proofs/.
 pub mod bads;
 pub mod checks;
 pub mod faults;
 pub mod fields;
-pub mod numbers;
-pub mod reader;
-pub mod records;
 pub mod transitions;
 
-// What the later parts name. Public calls, which ask nothing: check_table, number_of, place_of, record_at, payload_at, walk_records
-// and the reader's functions. The others are inner: each asks what its callers prove.
+// What the later parts name. Public calls, which ask nothing: check_table, number_of and place_of. The others are inner: each asks what its callers prove.
 pub use crate::bads::is_bad;
 pub use crate::checks::Checked;
 pub use crate::checks::Shape;

@@ -5,7 +5,7 @@ ghost use lib.ListN.{length};
 ghost use Rattle.table.specs.Transitions.{operationFrom, transitionAt};
 use crate::fields::Entry;
 use crate::fields::entry_of;
-use crate::records::part_of;
+use reader::records::part_of;
 
 // What a transition does: nothing to the channels, a send on a channel of a message, or a receive.
 pub enum Operation {

@@ -5,8 +5,8 @@ use Prim.Native.Nat.{ℕ}
 use lib.ListN.{set}
 use Rattle.common.specs.Choice.{ifLt, ifEq, ifTrue}
 use Rattle.atoms.specs.Masks.{atomTest, star, bit}
-use Rattle.table.specs.Bytes.{numberAt}
-use Rattle.table.specs.Records.{partOf}
+use Rattle.reader.specs.Bytes.{numberAt}
+use Rattle.reader.specs.Records.{partOf}
 use Rattle.table.specs.Fields.{headerOf, entryOf, headerFields, operationFields, transitionFields, badFields}
 use Rattle.table.specs.Checking.{framedAt, kindAt, readHeader, transitionStep, scanTransitions, badStep, scanBads, checkRest, checkTable}
 use Rattle.table.specs.Listing.{listed}

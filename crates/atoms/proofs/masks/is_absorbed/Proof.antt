@@ -1,4 +1,4 @@
-use mathlib.Core.Path.{_≡_}
+use mathlib.Core.Path.{sym, _∙_}
 use mathlib.Core.Bool.{true, false}
 use Rattle.atoms.proofs.MaskLaws.{absorbs-star, absorbs-single}
 use borrow.Author.Needs.{needs}
@@ -12,10 +12,10 @@ within-requires : tie.Need-within-requires
 within-requires c κs = search needs
 
 returns : tie.Need-returns
-returns c = absorbs-star _ _ (cc) (cc)
+returns c = absorbs-star _ _ (sym (c .before .before .is-star .ensures) ∙ c .before .if1 .taken) (c .within .ensures)
 
 returns-2 : tie.Need-returns-2
-returns-2 c = absorbs-single _ _ (cc)
+returns-2 c = absorbs-single _ _ (sym (c .before .is-star .ensures) ∙ c .if1 .left)
 
 pub is-absorbed-spec : {M : Type 1} → statement M
 is-absorbed-spec = tie.close (tie.spec is-star-requires within-requires returns returns-2)

@@ -1,4 +1,4 @@
-use mathlib.Core.Path.{_≡_, refl}
+use mathlib.Core.Path.{refl, sym, _∙_}
 use native.Mathlib.Omega.{arith}
 use Rattle.common.proofs.ChoiceLaws.{true-then, true-else, lt-then, eq-then, eq-else}
 use Rattle.atoms.specs.Masks.{atomTest}
@@ -25,14 +25,14 @@ is-star-requires c κs = search needs
 
 returns-3 : tie.Need-returns-3
 unfolding atomTest
-returns-3 c = lt-then _ _ _ _ (omega arith) (eq-else _ _ _ _ (λ e. omega arith) (eq-then _ _ _ _ (omega arith) (true-then _ _ _ (cc) refl)))
+returns-3 c = lt-then _ _ _ _ (omega arith) (eq-else _ _ _ _ (λ e. omega arith) (eq-then _ _ _ _ (omega arith) (true-then _ _ _ (sym (c .before .is-star .ensures) ∙ c .if3 .taken) refl)))
 
 sub-result : tie.Need-sub-result
 sub-result c = search needs
 
 returns-4 : tie.Need-returns-4
 unfolding atomTest
-returns-4 c = lt-then _ _ _ _ (omega arith) (eq-else _ _ _ _ (λ e. omega arith) (eq-then _ _ _ _ (omega arith) (true-else _ _ _ (cc) refl)))
+returns-4 c = lt-then _ _ _ _ (omega arith) (eq-else _ _ _ _ (λ e. omega arith) (eq-then _ _ _ _ (omega arith) (true-else _ _ _ (sym (c .before .is-star .ensures) ∙ c .if3 .left) refl)))
 
 pub is-atom-spec : {M : Type 1} → statement M
 is-atom-spec =

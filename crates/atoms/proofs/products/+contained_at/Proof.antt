@@ -1,6 +1,6 @@
 -- `contained_at` meets its contract. The measure is the number of atoms that remain of both ranges; each call drops a head of one or of both.
 use borrow.Author.Needs.{needs}
-use mathlib.Core.Path.{_≡_}
+use mathlib.Core.Path.{sym, _∙_}
 use Prim.Native.Nat.{ℕ, _<_, _+_, _-_}
 use native.Mathlib.Omega.{arith}
 use borrow.Fn.Kinds.{In}
@@ -58,7 +58,12 @@ contained-at-requires : (t : ℕ) → lts.Need-contained-at-requires (calls t) (
 contained-at-requires t c κs = search needs
 
 returns-3 : (t : ℕ) → lts.Need-returns-3 (calls t) (at t) contained-at.Post
-returns-3 t c = range-drop-here _ _ _ _ _ _ (omega arith) (omega arith) (omega arith) (omega arith) (cc) (cc) (cc)
+returns-3 t c =
+    let d = c .before .before .before in
+    range-drop-here _ _ _ _ _ _ (omega arith) (omega arith) (omega arith) (omega arith)
+    (sym (d .before .within .ensures) ∙ d .if3 .taken)
+    (sym (c .before .before .is-star .ensures) ∙ c .before .if4 .taken)
+    (c .contained-at .ensures)
 
 add-contained-at-2 : (t : ℕ) → lts.Need-add-contained-at-2 (calls t) (at t) contained-at.Post
 add-contained-at-2 t c = search needs
@@ -70,7 +75,12 @@ contained-at-requires-2 : (t : ℕ) → lts.Need-contained-at-requires-2 (calls 
 contained-at-requires-2 t c κs = search needs
 
 returns-4 : (t : ℕ) → lts.Need-returns-4 (calls t) (at t) contained-at.Post
-returns-4 t c = range-drop-both _ _ _ _ _ _ (omega arith) (omega arith) (omega arith) (omega arith) (cc) (cc) (cc)
+returns-4 t c =
+    let d = c .before .before .before in
+    range-drop-both _ _ _ _ _ _ (omega arith) (omega arith) (omega arith) (omega arith)
+    (sym (d .before .within .ensures) ∙ d .if3 .taken)
+    (sym (c .before .before .is-star .ensures) ∙ c .before .if4 .left)
+    (c .contained-at2 .ensures)
 
 add-contained-at-4 : (t : ℕ) → lts.Need-add-contained-at-4 (calls t) (at t) contained-at.Post
 add-contained-at-4 t c = search needs
@@ -79,7 +89,10 @@ contained-at-requires-3 : (t : ℕ) → lts.Need-contained-at-requires-3 (calls 
 contained-at-requires-3 t c κs = search needs
 
 returns-5 : (t : ℕ) → lts.Need-returns-5 (calls t) (at t) contained-at.Post
-returns-5 t c = range-drop-there _ _ _ _ _ _ (omega arith) (omega arith) (omega arith) (omega arith) (cc) (cc)
+returns-5 t c =
+    range-drop-there _ _ _ _ _ _ (omega arith) (omega arith) (omega arith) (omega arith)
+    (sym (c .before .before .within .ensures) ∙ c .before .if3 .left)
+    (c .contained-at3 .ensures)
 
 pub +contained-at-spec : {M : Type 1} → statement M
 +contained-at-spec =

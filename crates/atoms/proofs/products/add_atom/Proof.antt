@@ -1,4 +1,4 @@
-use mathlib.Core.Path.{_≡_}
+use mathlib.Core.Path.{sym, _∙_}
 use native.Mathlib.Omega.{arith}
 use Rattle.atoms.proofs.AddLaws.{added-alone, added-none, added-behind}
 use borrow.Author.Needs.{needs}
@@ -33,7 +33,7 @@ same-length-2 : tie.Need-same-length-2
 same-length-2 c = search needs
 
 returns-2 : tie.Need-returns-2
-returns-2 c = added-none _ _ _ _ (omega arith) (search needs) (search needs) (omega arith) (cc)
+returns-2 c = added-none _ _ _ _ (omega arith) (search needs) (search needs) (omega arith) (sym (c .before .is-absorbed .ensures) ∙ c .if2 .taken)
 
 mul-p : tie.Need-mul-p
 mul-p c = search needs
@@ -48,7 +48,7 @@ same-length-3 : tie.Need-same-length-3
 same-length-3 c = search needs
 
 returns-3 : tie.Need-returns-3
-returns-3 c = added-behind _ _ _ _ (omega arith) (search needs) (search needs) (omega arith) (cc)
+returns-3 c = added-behind _ _ _ _ (omega arith) (search needs) (search needs) (omega arith) (sym (c .before .is-absorbed .ensures) ∙ c .if2 .left)
 
 pub add-atom-spec : {M : Type 1} → statement M
 add-atom-spec =

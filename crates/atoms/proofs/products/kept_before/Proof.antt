@@ -1,4 +1,4 @@
-use mathlib.Core.Path.{_≡_}
+use mathlib.Core.Path.{_≡_, sym, _∙_}
 use mathlib.Core.List.{[], _∷_, _++_}
 use Prim.Native.Nat.{_≤_}
 use native.Mathlib.Omega.{arith}
@@ -34,10 +34,15 @@ loop-less : tie.Need-loop-less Inv-loop μ-loop
 loop-less c = search needs
 
 loop-again : tie.Need-loop-again Inv-loop μ-loop
-loop-again c = (omega arith, kept-again _ _ (omega arith) (omega arith) _ (cc) (cc))
+loop-again c = (omega arith, kept-again _ _ (omega arith) (omega arith) _ (sym (c .before .is-absorbed .ensures) ∙ c .if1 .taken) (c .before .before .before .before .loop .inv .1))
 
 returns : tie.Need-returns Inv-loop μ-loop
-returns c = record { few = omega arith; same = cc; stays = λ s. cc }
+returns c =
+    record {
+      few = omega arith;
+      same = c .before .before .before .before .loop .inv .1;
+      stays = λ s. sym (c .before .is-absorbed .ensures) ∙ c .if1 .left;
+    }
 
 returns-2 : tie.Need-returns-2 Inv-loop μ-loop
 returns-2 c = let e : c .before .loop .k ≡ 0 = omega arith in record { few = omega arith; same = rw e at (c .before .loop .inv .1); stays = λ s. absurd (omega arith) }

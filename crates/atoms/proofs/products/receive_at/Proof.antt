@@ -1,4 +1,4 @@
-use mathlib.Core.Path.{_≡_}
+use mathlib.Core.Path.{_≡_, sym, _∙_}
 use Prim.Native.Nat.{_≤_, _-_}
 use native.Mathlib.Omega.{arith}
 use Rattle.common.specs.Part.{part}
@@ -30,13 +30,27 @@ is-star-requires : tie.Need-is-star-requires Inv-loop μ-loop
 is-star-requires c κs = search needs
 
 returns : tie.Need-returns Inv-loop μ-loop
-returns c = (range-star _ _ _ _ _ (cc) (omega arith) (omega arith) (cc) (cc), search needs)
+returns c =
+    let d = c .before .before in
+    let i = d .before .before .before .before .loop .inv in (
+      range-star _ _ _ _ _ (i .2) (omega arith) (omega arith)
+          (sym (d .before .has-message .ensures) ∙ d .if1 .taken)
+          (sym (c .before .is-star .ensures) ∙ c .if2 .taken),
+      search needs,
+    )
 
 add-t13 : tie.Need-add-t13 Inv-loop μ-loop
 add-t13 c = search needs
 
 returns-2 : tie.Need-returns-2 Inv-loop μ-loop
-returns-2 c = (range-single _ _ _ _ _ (cc) (omega arith) (omega arith) (cc) (cc), omega arith)
+returns-2 c =
+    let d = c .before .before in
+    let i = d .before .before .before .before .loop .inv in (
+      range-single _ _ _ _ _ (i .2) (omega arith) (omega arith)
+          (sym (d .before .has-message .ensures) ∙ d .if1 .taken)
+          (sym (c .before .is-star .ensures) ∙ c .if2 .left),
+      omega arith,
+    )
 
 add-i : tie.Need-add-i Inv-loop μ-loop
 add-i c = search needs
@@ -45,10 +59,15 @@ loop-less : tie.Need-loop-less Inv-loop μ-loop
 loop-less c = search needs
 
 loop-again : tie.Need-loop-again Inv-loop μ-loop
-loop-again c = (omega arith, omega arith, range-past _ _ _ _ _ (cc) (omega arith) (omega arith) (cc))
+loop-again c =
+    let i = c .before .before .before .before .loop .inv in (
+      omega arith,
+      omega arith,
+      range-past _ _ _ _ _ (i .2) (omega arith) (omega arith) (sym (c .before .has-message .ensures) ∙ c .if1 .left),
+    )
 
 returns-3 : tie.Need-returns-3 Inv-loop μ-loop
-returns-3 c = (range-impossible _ _ _ (c .before .loop .i) _ (cc) (omega arith), tt)
+returns-3 c = (range-impossible _ _ _ (c .before .loop .i) _ (c .before .loop .inv .2) (omega arith), tt)
 
 pub receive-at-spec : {M : Type 1} → statement M
 receive-at-spec =

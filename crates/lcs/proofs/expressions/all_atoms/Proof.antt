@@ -1,4 +1,4 @@
-use mathlib.Core.Path.{_≡_}
+use mathlib.Core.Path.{_≡_, sym, _∙_}
 use Prim.Native.Nat.{_-_}
 use native.Mathlib.Omega.{arith}
 use lib.ListN.{length}
@@ -34,13 +34,16 @@ loop-less : tie.Need-loop-less Inv-loop μ-loop
 loop-less c = search needs
 
 loop-again : tie.Need-loop-again Inv-loop μ-loop
-loop-again c = all-next _ _ (cc) (omega arith) (cc)
+loop-again c =
+    all-next _ _ (c .before .before .before .before .loop .inv) (omega arith) (sym (c .before .is-atom .ensures) ∙ c .if1 .taken)
 
 returns : tie.Need-returns Inv-loop μ-loop
-returns c = all-not _ (c .before .before .before .before .loop .i) (cc) (omega arith) (cc)
+returns c =
+    let l = c .before .before .before .before .loop in
+    all-not _ (l .i) (l .inv) (omega arith) (sym (c .before .is-atom .ensures) ∙ c .if1 .left)
 
 returns-2 : tie.Need-returns-2 Inv-loop μ-loop
-returns-2 c = all-ends _ (c .before .loop .i) (cc) (omega arith)
+returns-2 c = all-ends _ (c .before .loop .i) (c .before .loop .inv) (omega arith)
 
 pub all-atoms-spec : {M : Type 1} → statement M
 all-atoms-spec =

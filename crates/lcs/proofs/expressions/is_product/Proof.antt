@@ -1,4 +1,3 @@
-use mathlib.Core.Path.{_≡_}
 use native.Mathlib.Omega.{arith}
 use Rattle.lcs.proofs.ExpressionLaws.{too-many, few-enough}
 use borrow.Author.Needs.{needs}
@@ -12,7 +11,7 @@ all-atoms-requires : tie.Need-all-atoms-requires
 all-atoms-requires c κs = search needs
 
 returns-2 : tie.Need-returns-2
-returns-2 c = few-enough _ (omega arith) (cc)
+returns-2 c = few-enough _ (omega arith) (c .all-atoms .ensures)
 
 pub is-product-spec : {M : Type 1} → statement M
 is-product-spec = tie.close (tie.spec returns all-atoms-requires returns-2)

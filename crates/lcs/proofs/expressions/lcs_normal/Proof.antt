@@ -1,4 +1,4 @@
-use mathlib.Core.Path.{_≡_, sym, _∙_}
+use mathlib.Core.Path.{sym, _∙_}
 use native.Mathlib.Omega.{arith}
 use Rattle.lcs.proofs.ExpressionLaws.{product-is, normal-answers, normal-refused}
 use borrow.Author.Needs.{needs}
@@ -18,13 +18,15 @@ same-length : tie.Need-same-length
 same-length c = search needs
 
 returns : tie.Need-returns
-returns c = normal-answers _ (cc) (c .before .before .normal-front .ensures)
+returns c =
+    let d = c .before .before .before .before in
+    normal-answers _ (sym (d .before .is-product .ensures) ∙ d .if1 .taken) (c .before .before .normal-front .ensures)
 
 same-length-2 : tie.Need-same-length-2
 same-length-2 c = search needs
 
 returns-2 : tie.Need-returns-2
-returns-2 c = normal-refused _ (cc)
+returns-2 c = normal-refused _ (sym (c .before .is-product .ensures) ∙ c .if1 .left)
 
 pub lcs-normal-spec : {M : Type 1} → statement M
 lcs-normal-spec =

@@ -1,6 +1,6 @@
 -- Two bytes, each below 256: the sum fits.
 use borrow.Author.Needs.{needs}
-use Rattle.table.specs.Bytes.{numberAt}
+use Rattle.reader.specs.Bytes.{numberAt}
 use Rattle.lists.proofs.products.word_at.Statement.{statement}
 use Rattle.lists.proofs.products.word_at.Tie as tie
 

@@ -1,4 +1,5 @@
 use Rattle.search.proofs.SearchLaws.{searches-refused}
+use mathlib.Core.Path.{sym, _∙_}
 use borrow.Author.Needs.{needs}
 use Rattle.search.proofs.searches.search.Statement.{statement}
 use Rattle.search.proofs.searches.search.Tie as tie
@@ -10,13 +11,13 @@ enum-known-fault : tie.Need-enum-known-fault
 enum-known-fault c = search needs
 
 returns : tie.Need-returns
-returns c = searches-refused _ _ _ _ _ (cc)
+returns c = searches-refused _ _ _ _ _ (sym (c .before .fault .given .1) ∙ c .before .before .before .check-table .ensures)
 
 enum-known-s : tie.Need-enum-known-s
 enum-known-s c = search needs
 
 search-good-requires : tie.Need-search-good-requires
-search-good-requires c κs = (cc)
+search-good-requires c κs = sym (c .before .before .before .before .before .check-table .ensures) ∙ c .before .before .before .s .given .1
 
 same-length : tie.Need-same-length
 same-length c = search needs

@@ -1,4 +1,5 @@
 use Rattle.search.proofs.SearchLaws.{room-is-few, room-is-there, room-is-some, searches-small-work, searches-small-run, searches-bad, searches-found}
+use mathlib.Core.Path.{sym, _∙_}
 use native.Mathlib.Omega.{arith}
 use borrow.Author.Needs.{needs}
 use Rattle.search.proofs.searches.search_good.Statement.{statement}
@@ -26,7 +27,8 @@ is-bad-requires c κs = search needs
 returns-3 : tie.Need-returns-3
 returns-3 c =
     let g = c .before .before .before .before .before .before .before .before .pre in
-    searches-bad _ _ g _ _ (omega arith) (omega (arith, c .before .before .before .room-of .ensures)) (cc)
+    searches-bad _ _ g _ _ (omega arith) (omega (arith, c .before .before .before .room-of .ensures))
+    (sym (c .if3 .taken) ∙ c .before .is-bad .ensures)
 
 search-rows-requires : tie.Need-search-rows-requires
 search-rows-requires c κs =
@@ -44,7 +46,8 @@ returns-4 : tie.Need-returns-4
 returns-4 c =
     let g = c .before .before .before .before .before .before .before .before .before .before .before .before .before .before .before .pre in
     let e = c .before .before .before .before .before .before .before .before .before .before .room-of .ensures in
-    searches-found _ _ g _ _ (omega arith) (omega (arith, e)) _ _ _ _ e (cc) (c .before .before .before .before .search-rows .ensures)
+    searches-found _ _ g _ _ (omega arith) (omega (arith, e)) _ _ _ _ e
+    (sym (c .before .before .before .before .before .before .before .if3 .left) ∙ c .before .before .before .before .before .before .before .before .is-bad .ensures) (c .before .before .before .before .search-rows .ensures)
 
 pub search-good-spec : {M : Type 1} → statement M
 search-good-spec =

@@ -1,6 +1,7 @@
 use Rattle.search.proofs.VisitLaws.{few-changed, sized, few-rows, normals, visit-elsewhere, visit-impossible, visit-comes, visit-tested}
 use Rattle.table.proofs.SystemLaws.{transition-ranged, transition-target}
 use Rattle.table.proofs.GoodLaws.{transition-there}
+use mathlib.Core.Path.{sym, _∙_}
 use native.Mathlib.Omega.{arith}
 use borrow.Author.Needs.{needs}
 use Rattle.search.proofs.visits.visit_move.Statement.{statement}
@@ -33,7 +34,7 @@ same-length-2 c = search needs
 returns : tie.Need-returns
 returns c =
     let p = c .before .before .before .before .before .before .before .before .before .before .before .before .before .before .before .before .pre in
-    visit-impossible _ _ (p .0) _ _ _ (p .1 .0) _ _ (omega arith) (omega arith) _ (c .before .before .before .before .before .before .before .before .before .before .before .before .transition-at .ensures) (cc) _ _ (c .before .before .before .before .outcome-into .ensures .0) (c .enum-told .given .1)
+    visit-impossible _ _ (p .0) _ _ _ (p .1 .0) _ _ (omega arith) (omega arith) _ (c .before .before .before .before .before .before .before .before .before .before .before .before .transition-at .ensures) (sym (c .before .before .before .before .before .before .before .before .before .before .state-of .ensures) ∙ c .before .before .before .before .before .before .before .before .if1 .taken) _ _ (c .before .before .before .before .outcome-into .ensures .0) (c .enum-told .given .1)
 
 enum-known-channel : tie.Need-enum-known-channel
 enum-known-channel c = search needs
@@ -47,7 +48,7 @@ test-outcome-requires c κs =
       (
         p .1 .0,
         (
-          visit-comes _ _ (p .0) _ _ _ (p .1 .0) _ _ (omega arith) (omega arith) _ u (cc) _ _ (c .before .before .before .before .before .before .before .outcome-into .ensures .0) _ _ k,
+          visit-comes _ _ (p .0) _ _ _ (p .1 .0) _ _ (omega arith) (omega arith) _ u (sym (c .before .before .before .before .before .before .before .before .before .before .before .before .before .state-of .ensures) ∙ c .before .before .before .before .before .before .before .before .before .before .before .if1 .taken) _ _ (c .before .before .before .before .before .before .before .outcome-into .ensures .0) _ _ k,
           (omega arith, omega arith, transition-target _ _ (p .0) _ _ u (omega arith), omega arith, omega arith, omega (arith, few-changed _ _ _ k (c .before .before .before .before .before .before .before .outcome-into .ensures .1))),
         ),
       ),
@@ -64,7 +65,7 @@ returns-2 c =
     let p = c .before .before .before .before .before .before .before .before .before .before .before .before .before .before .before .before .before .before .before .before .before .before .pre in
     let u = c .before .before .before .before .before .before .before .before .before .before .before .before .before .before .before .before .before .before .transition-at .ensures in
     let k = c .before .before .before .before .before .before .channel .given .1 in
-    visit-tested _ _ (p .0) _ _ _ (p .1 .0) _ _ (omega arith) (omega arith) _ u _ _ _ (visit-comes _ _ (p .0) _ _ _ (p .1 .0) _ _ (omega arith) (omega arith) _ u (cc) _ _ (c .before .before .before .before .before .before .before .before .before .before .outcome-into .ensures .0) _ _ k) (c .before .before .test-outcome .ensures)
+    visit-tested _ _ (p .0) _ _ _ (p .1 .0) _ _ (omega arith) (omega arith) _ u _ _ _ (visit-comes _ _ (p .0) _ _ _ (p .1 .0) _ _ (omega arith) (omega arith) _ u (sym (c .before .before .before .before .before .before .before .before .before .before .before .before .before .before .before .before .state-of .ensures) ∙ c .before .before .before .before .before .before .before .before .before .before .before .before .before .before .if1 .taken) _ _ (c .before .before .before .before .before .before .before .before .before .before .outcome-into .ensures .0) _ _ k) (c .before .before .test-outcome .ensures)
 
 same-length-5 : tie.Need-same-length-5
 same-length-5 c = search needs

@@ -1,8 +1,8 @@
 -- The number stands at the bad state's fixed place.
 use borrow.Author.Needs.{needs}
 use native.Mathlib.Omega.{arith}
-use Rattle.table.proofs.RecordLaws.{part-fits}
-use Rattle.table.specs.Systems.{badAt}
+use Rattle.reader.proofs.RecordLaws.{part-fits}
+use Rattle.table.proofs.PlaceLaws.{bad-is}
 use Rattle.table.proofs.bads.bad_at.Statement.{statement}
 use Rattle.table.proofs.bads.bad_at.Tie as tie
 
@@ -25,8 +25,7 @@ number-at-requires : tie.Need-number-at-requires
 number-at-requires c κs = part-fits _ _ _ _ (c .part-of .ensures) (omega arith)
 
 returns : tie.Need-returns
-unfolding badAt
-returns c = cc
+returns c = bad-is _ _ _ (c .number-at .ensures) (c .before .part-of .ensures)
 
 pub bad-at-spec : {M : Type 1} → statement M
 bad-at-spec =

@@ -26,7 +26,7 @@ bad-at-requires : tie.Need-bad-at-requires Inv-loop μ-loop
 bad-at-requires c κs = omega (arith, length-is _ _ (c .before .before .before .pre))
 
 returns : tie.Need-returns Inv-loop μ-loop
-returns c = sym (bad-here _ _ (cc) _ _ (sym (c .before .bad-at .ensures) ∙ c .if1 .taken) (omega arith))
+returns c = sym (bad-here _ _ (c .before .before .before .before .before .pre) _ _ (sym (c .before .bad-at .ensures) ∙ c .if1 .taken) (omega arith))
 
 add-low : tie.Need-add-low Inv-loop μ-loop
 add-low c = omega arith
@@ -35,16 +35,20 @@ loop-less : tie.Need-loop-less Inv-loop μ-loop
 loop-less c = omega arith
 
 loop-again : tie.Need-loop-again Inv-loop μ-loop
-loop-again c = halving-up _ _ (cc) _ (c .before .before .before .before .loop .inv) _ (omega arith) (omega arith) (omega arith)
+loop-again c =
+    let d = c .before .before .before .before in
+    halving-up _ _ (d .before .before .pre) _ (d .loop .inv) _ (omega arith) (omega arith) (omega arith)
 
 loop-less-2 : tie.Need-loop-less-2 Inv-loop μ-loop
 loop-less-2 c = omega arith
 
 loop-again-2 : tie.Need-loop-again-2 Inv-loop μ-loop
-loop-again-2 c = halving-down _ _ (cc) _ (c .before .before .before .before .loop .inv) _ (omega arith) (omega arith) (omega arith)
+loop-again-2 c =
+    let d = c .before .before .before .before in
+    halving-down _ _ (d .before .before .pre) _ (d .loop .inv) _ (omega arith) (omega arith) (omega arith)
 
 returns-2 : tie.Need-returns-2 Inv-loop μ-loop
-returns-2 c = halving-end _ _ (cc) _ (c .before .loop .inv) (omega arith)
+returns-2 c = halving-end _ _ (c .before .before .before .pre) _ (c .before .loop .inv) (omega arith)
 
 pub is-bad-spec : {M : Type 1} → statement M
 is-bad-spec =

@@ -1,6 +1,7 @@
 -- The invariant: what the walk finds from here is what it finds from the start.
 use borrow.Author.Needs.{needs}
 use Prim.Native.Nat.{_-_}
+use mathlib.Core.Path.{sym, _∙_}
 use native.Mathlib.Omega.{arith}
 use lib.ListN.{length}
 use Rattle.table.proofs.TurnLaws.{AtBad, bads-start, bads-done, bads-fail, bads-next}
@@ -32,13 +33,17 @@ loop-less : tie.Need-loop-less Inv-loop μ-loop
 loop-less c = omega arith
 
 loop-again : tie.Need-loop-again Inv-loop μ-loop
-loop-again c = bads-next _ _ _ (c .before .before .before .before .before .loop .inv) (omega arith) _ (cc)
+loop-again c =
+    let d = c .before .before .before in
+    bads-next _ _ _ (d .before .before .loop .inv) (omega arith) _ (sym (c .before .next .given .1) ∙ d .bad-step .ensures)
 
 enum-known-fault : tie.Need-enum-known-fault Inv-loop μ-loop
 enum-known-fault c = search needs
 
 returns : tie.Need-returns Inv-loop μ-loop
-returns c = bads-fail _ _ _ (c .before .before .before .before .before .loop .inv) (omega arith) _ (cc)
+returns c =
+    let d = c .before .before .before in
+    bads-fail _ _ _ (d .before .before .loop .inv) (omega arith) _ (sym (c .before .fault .given .1) ∙ d .bad-step .ensures)
 
 returns-2 : tie.Need-returns-2 Inv-loop μ-loop
 returns-2 c = bads-done _ _ _ (c .before .loop .inv) (omega arith)

@@ -32,17 +32,19 @@ enum-known-bads : tie.Need-enum-known-bads
 enum-known-bads c = search needs
 
 returns : tie.Need-returns
-returns c = rest-transitions _ _ _ _ (cc)
+returns c = rest-transitions _ _ _ _ (sym (c .before .fault .given .1) ∙ c .before .before .before .check-transitions .ensures)
 
 returns-2 : tie.Need-returns-2
 returns-2 c =
     let d = c .before .before .before .before in
-    rest-bads _ _ _ (sym (d .before .transitions .given .1) ∙ d .before .before .before .check-transitions .ensures) _ _ (cc)
+    rest-bads _ _ _ (sym (d .before .transitions .given .1) ∙ d .before .before .before .check-transitions .ensures) _ _
+    (sym (c .before .fault2 .given .1) ∙ c .before .before .before .check-bads .ensures)
 
 returns-3 : tie.Need-returns-3
 returns-3 c =
     let d = c .before .before .before .before in
-    rest-good _ _ _ (sym (d .before .transitions .given .1) ∙ d .before .before .before .check-transitions .ensures) _ (cc)
+    rest-good _ _ _ (sym (d .before .transitions .given .1) ∙ d .before .before .before .check-transitions .ensures) _
+    (sym (c .before .bads .given .1) ∙ c .before .before .before .check-bads .ensures)
 
 pub check-rest-spec : {M : Type 1} → statement M
 check-rest-spec =

@@ -18,7 +18,7 @@ check-rest-requires : tie.Need-check-rest-requires
 check-rest-requires c κs = search needs
 
 returns : tie.Need-returns
-returns c = table-header _ _ (cc)
+returns c = table-header _ _ (sym (c .before .fault .given .1) ∙ c .before .before .before .read-header .ensures)
 
 returns-2 : tie.Need-returns-2
 returns-2 c =

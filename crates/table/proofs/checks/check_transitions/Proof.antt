@@ -1,6 +1,7 @@
 -- The invariant: what the walk finds from here is what it finds from the start.
 use borrow.Author.Needs.{needs}
 use Prim.Native.Nat.{_-_}
+use mathlib.Core.Path.{sym, _∙_}
 use native.Mathlib.Omega.{arith}
 use lib.ListN.{length}
 use Rattle.table.proofs.TurnLaws.{AtTransition, transitions-start, transitions-done, transitions-end, transitions-fail, transitions-next}
@@ -32,19 +33,25 @@ loop-less : tie.Need-loop-less Inv-loop μ-loop
 loop-less c = omega arith
 
 loop-again : tie.Need-loop-again Inv-loop μ-loop
-loop-again c = transitions-next _ _ (c .before .before .before .before .loop .inv) (omega arith) (cc)
+loop-again c =
+    let d = c .before .before in
+    transitions-next _ _ (d .before .before .loop .inv) (omega arith) (sym (c .enum-told .given .1) ∙ d .transition-step .ensures)
 
 enum-told-2 : tie.Need-enum-told-2 Inv-loop μ-loop
 enum-told-2 c = search needs
 
 returns : tie.Need-returns Inv-loop μ-loop
-returns c = transitions-end _ _ (c .before .before .before .before .loop .inv) (omega arith) (cc)
+returns c =
+    let d = c .before .before in
+    transitions-end _ _ (d .before .before .loop .inv) (omega arith) (sym (c .enum-told2 .given .1) ∙ d .transition-step .ensures)
 
 enum-known-fault : tie.Need-enum-known-fault Inv-loop μ-loop
 enum-known-fault c = search needs
 
 returns-2 : tie.Need-returns-2 Inv-loop μ-loop
-returns-2 c = transitions-fail _ _ (c .before .before .before .before .before .loop .inv) (omega arith) _ (cc)
+returns-2 c =
+    let d = c .before .before .before in
+    transitions-fail _ _ (d .before .before .loop .inv) (omega arith) _ (sym (c .before .fault .given .1) ∙ d .transition-step .ensures)
 
 returns-3 : tie.Need-returns-3 Inv-loop μ-loop
 returns-3 c = transitions-done _ _ (c .before .loop .inv) (omega arith)

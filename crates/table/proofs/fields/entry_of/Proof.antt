@@ -1,6 +1,6 @@
 -- The numbers stand at the payload's places.
 use borrow.Author.Needs.{needs}
-use Rattle.table.specs.Fields.{entryOf}
+use Rattle.table.proofs.PlaceLaws.{entry-is}
 use Rattle.table.proofs.fields.entry_of.Statement.{statement}
 use Rattle.table.proofs.fields.entry_of.Tie as tie
 
@@ -23,8 +23,15 @@ byte-at-requires-4 : tie.Need-byte-at-requires-4
 byte-at-requires-4 c κs = search needs
 
 returns : tie.Need-returns
-unfolding entryOf
-returns c = cc
+returns c =
+    let d = c .before .before .before in
+    entry-is _
+    (d .before .before .number-at .ensures)
+    (d .before .number-at2 .ensures)
+    (d .byte-at .ensures)
+    (c .before .before .byte-at2 .ensures)
+    (c .before .byte-at3 .ensures)
+    (c .byte-at4 .ensures)
 
 pub entry-of-spec : {M : Type 1} → statement M
 entry-of-spec =

@@ -1,6 +1,6 @@
 -- The numbers stand at the payload's places.
 use borrow.Author.Needs.{needs}
-use Rattle.table.specs.Fields.{headerOf}
+use Rattle.table.proofs.PlaceLaws.{header-is}
 use Rattle.table.proofs.fields.header_of.Statement.{statement}
 use Rattle.table.proofs.fields.header_of.Tie as tie
 
@@ -17,8 +17,12 @@ number-at-requires-2 : tie.Need-number-at-requires-2
 number-at-requires-2 c κs = search needs
 
 returns : tie.Need-returns
-unfolding headerOf
-returns c = cc
+returns c =
+    header-is _
+    (c .before .before .before .number-at .ensures)
+    (c .before .before .byte-at .ensures)
+    (c .before .byte-at2 .ensures)
+    (c .number-at2 .ensures)
 
 pub header-of-spec : {M : Type 1} → statement M
 header-of-spec =

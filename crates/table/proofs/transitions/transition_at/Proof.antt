@@ -1,8 +1,8 @@
 -- The numbers stand at the transition's fixed place.
 use borrow.Author.Needs.{needs}
 use native.Mathlib.Omega.{arith}
-use Rattle.table.proofs.RecordLaws.{part-fits}
-use Rattle.table.specs.Transitions.{transitionAt}
+use Rattle.reader.proofs.RecordLaws.{part-fits}
+use Rattle.table.proofs.PlaceLaws.{transition-is}
 use Rattle.table.proofs.transitions.transition_at.Statement.{statement}
 use Rattle.table.proofs.transitions.transition_at.Tie as tie
 
@@ -22,8 +22,7 @@ operation-from-requires : tie.Need-operation-from-requires
 operation-from-requires c κs = search needs
 
 returns : tie.Need-returns
-unfolding transitionAt
-returns c = cc
+returns c = transition-is _ _ (c .operation-from .ensures) (c .before .entry-of .ensures) (c .before .before .part-of .ensures)
 
 pub transition-at-spec : {M : Type 1} → statement M
 transition-at-spec =
