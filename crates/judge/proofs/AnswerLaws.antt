@@ -78,7 +78,7 @@ judge-says t list = go (checkTable t)
     go (checked.Refused f at) = refl
     go (checked.Good s) = of-list s (checkList s list)
 
-judges : (t list : List ℕ) (r : Answer) → r ≡ judgeOf t list → Judges t list r
+pub judges : (t list : List ℕ) (r : Answer) → r ≡ judgeOf t list → Judges t list r
 judges t list r e = record { says = ap answerOf e ∙ judge-says t list; exact = e }
 
 -- The table's refusal, and the answer for a good table.

@@ -43,7 +43,7 @@ replay-says t run = go (checkTable t)
         choice-says 2048 (length run) TooLong (found (replay (systemOf t) run))
         ∙ ap (ifLt 2048 (length run) (refused longRun)) (found-says (replay (systemOf t) run))
 
-replays : (t run : List ℕ) (r : Answer) → r ≡ replayOf t run → Replays t run r
+pub replays : (t run : List ℕ) (r : Answer) → r ≡ replayOf t run → Replays t run r
 replays t run r e = record { says = ap answerOf e ∙ replay-says t run; exact = e }
 
 -- The table's refusal, a run that is too long, and the words played.

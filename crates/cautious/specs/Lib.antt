@@ -1,0 +1,3 @@
+-- What the cautious functions answer and leave.
+pub mod Judged
+pub mod Replayed
