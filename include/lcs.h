@@ -59,6 +59,38 @@ uint32_t lcs_check_table(const uint8_t *table, size_t length, uint64_t out[3]);
 uint32_t lcs_search(const uint8_t *table, size_t table_length, uint16_t *work, size_t work_length,
                     uint16_t *run, size_t run_length, uint64_t out[3]);
 
+/* Writes the first rows of a work table as a proof list to the front of list. A work table has room
+   for rows, and a row has its words, as with lcs_search. Of a row the state, and for each channel of
+   the table the count and the counted atoms are looked at; all other words may be anything. Fills
+   all three places of out:
+   0: written; the bytes of the list, 0, 0.
+   4: refused; the refusal's number, the input, and the place. A table is refused as by
+      lcs_check_table. Then, with input 3, 9: there is no room for so many rows, and the place is the
+      room; or a row's state is none of the table's, a count is over 24, or a counted word is no atom
+      over the table's messages, and the place is the lowest such row. 10: the list does not fit, and
+      the place is how many bytes it needs.
+   A list is records, one to a row: a payload length of two bytes, the kind 16 in two, and the payload,
+   which is the state in two bytes, and then for each channel of the table a count in one and that many
+   atoms in two each, all numbers little-endian. Bytes past the list keep their values. */
+uint32_t lcs_write_list(const uint8_t *table, size_t table_length, const uint16_t *work,
+                        size_t work_length, uint64_t rows, uint8_t *list, size_t list_length,
+                        uint64_t out[3]);
+
+/* Judges a proof list for a table. An accepted list is a proof that no run reaches a bad state,
+   wherever the list comes from. Takes about 240,000 bytes of the stack. The first of these that
+   holds is answered. Fills all three places of out:
+   4: refused; the refusal's number, the input, and the place. A table is refused as by
+      lcs_check_table, and then the list with input 1, by the same numbers but for 5; 6 is row 1,025.
+      The place is where the record starts that is refused.
+   1: no start; 0, 0, 0: no row is in the start state.
+   2: bad row; the lowest row that is in a bad state, 0, 0.
+   3: not closed; the lowest row with a transition whose outcome is possible and inside no single
+      row of the list, the lowest such transition, 0. The outcome of a send that ends in its own state
+      is that of any number of rounds.
+   0: accepted; 0, 0, 0. */
+uint32_t lcs_judge(const uint8_t *table, size_t table_length, const uint8_t *list,
+                   size_t list_length, uint64_t out[3]);
+
 /* Replays a run on a table, from the start with every channel empty. A word of the run is a step, as
    lcs_search writes it; steps are numbered from 0. All words are played, and the last state decides.
    Fills all three places of out:

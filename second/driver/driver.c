@@ -63,6 +63,16 @@ static uint32_t replay(const struct lent *a)
     return lcs_replay(BYTES(a[0]), WORDS(a[1]), NUMBERS(a[2]));
 }
 
+static uint32_t write_list(const struct lent *a)
+{
+    return lcs_write_list(BYTES(a[0]), WORDS(a[1]), NUMBER(a[2]), BYTES(a[3]), NUMBERS(a[4]));
+}
+
+static uint32_t judge(const struct lent *a)
+{
+    return lcs_judge(BYTES(a[0]), BYTES(a[1]), NUMBERS(a[2]));
+}
+
 /* By their numbers: the order is that of `Function` in the second program. */
 static const struct function {
     uint32_t arguments;
@@ -74,6 +84,8 @@ static const struct function {
     {2, check_table},
     {4, search},
     {3, replay},
+    {5, write_list},
+    {3, judge},
 };
 
 enum { FUNCTIONS = sizeof functions / sizeof functions[0], ARGUMENTS_MAX = 5 };

@@ -4,7 +4,8 @@
 //! how the second program answers it.
 
 use crate::answers::{
-    lcs_check_table, lcs_contained, lcs_normal, lcs_receive, lcs_replay, lcs_search, Answer,
+    lcs_check_table, lcs_contained, lcs_judge, lcs_normal, lcs_receive, lcs_replay, lcs_search,
+    lcs_write_list, Answer,
 };
 use std::{fmt, io};
 
@@ -17,6 +18,8 @@ pub enum Function {
     CheckTable = 3,
     Search = 4,
     Replay = 5,
+    WriteList = 6,
+    Judge = 7,
 }
 
 /// What is lent to a call. A plain number is one of `Numbers`.
@@ -98,6 +101,23 @@ impl Call {
         Call::of(Function::Replay, lent)
     }
 
+    pub fn write_list(table: Vec<u8>, work: Vec<u16>, rows: u64, list: Vec<u8>) -> Call {
+        let (work, rows) = (Lent::Words(work), Lent::Numbers(vec![rows]));
+        let lent = vec![
+            Lent::Bytes(table),
+            work,
+            rows,
+            Lent::Bytes(list),
+            not_filled(),
+        ];
+        Call::of(Function::WriteList, lent)
+    }
+
+    pub fn judge(table: Vec<u8>, list: Vec<u8>) -> Call {
+        let lent = vec![Lent::Bytes(table), Lent::Bytes(list), not_filled()];
+        Call::of(Function::Judge, lent)
+    }
+
     fn of(function: Function, lent: Vec<Lent>) -> Call {
         Call { function, lent }
     }
@@ -119,6 +139,13 @@ impl Call {
             ) => filled(out, lcs_search(table, work, run)),
             (Function::Replay, [Lent::Bytes(table), Lent::Words(run), Lent::Numbers(out)]) => {
                 filled(out, lcs_replay(table, run))
+            }
+            (
+                Function::WriteList,
+                [Lent::Bytes(table), Lent::Words(work), Lent::Numbers(rows), Lent::Bytes(list), Lent::Numbers(out)],
+            ) => filled(out, lcs_write_list(table, work, rows[0], list)),
+            (Function::Judge, [Lent::Bytes(table), Lent::Bytes(list), Lent::Numbers(out)]) => {
+                filled(out, lcs_judge(table, list))
             }
             (function, lent) => panic!("{function:?} does not take {lent:?}"),
         };

@@ -2,10 +2,12 @@
 //!
 //! A case depends on the seed and its own number only, so that a seed and a case number name it.
 
+mod judges;
 mod products;
 mod replays;
 mod searches;
 mod tables;
+mod writes;
 
 use crate::calls::{Call, Lent, Library, Reply};
 use crate::driver::Driver;
@@ -53,6 +55,30 @@ fn refusal(reply: &Reply) -> Option<u64> {
     }
 }
 
+/// One of the three numbers of an answer.
+fn number(reply: &Reply, place: usize) -> u64 {
+    match reply.lent.last() {
+        Some(Lent::Numbers(numbers)) => numbers[place],
+        _ => panic!("{reply:?} has no numbers"),
+    }
+}
+
+/// The words that are lent there.
+fn words(call: &Call, place: usize) -> &[u16] {
+    match &call.lent[place] {
+        Lent::Words(words) => words,
+        lent => panic!("{lent:?} are no words"),
+    }
+}
+
+/// The bytes that are lent there.
+fn bytes(call: &Call, place: usize) -> &[u8] {
+    match &call.lent[place] {
+        Lent::Bytes(bytes) => bytes,
+        lent => panic!("{lent:?} are no bytes"),
+    }
+}
+
 /// All comparisons, in the order in which they are made.
 pub const COMPARISONS: &[Comparison] = &[
     products::CONTAINED,
@@ -62,6 +88,8 @@ pub const COMPARISONS: &[Comparison] = &[
     CHECK_TABLE,
     searches::SEARCH,
     replays::REPLAY,
+    writes::WRITE_LIST,
+    judges::JUDGE,
 ];
 
 /// The comparison of the table check.

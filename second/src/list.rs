@@ -1,7 +1,7 @@
 //! Proof lists: records of kind 16, each a state and a product for each channel of the table.
 
 use crate::product::{is_atom, Product, ATOMS_MAX};
-use crate::record::{u16_at, Head, Reader, HEAD_BYTES};
+use crate::record::{push_record, u16_at, Head, Reader, HEAD_BYTES};
 use crate::refusal::{Input, Refusal};
 use crate::row::{Row, CHANNELS};
 use crate::table::Table;
@@ -102,6 +102,17 @@ impl Fields<'_> {
         let field = HEAD_BYTES + self.next - bytes;
         Err(Refusal::wrong_field(Input::List, self.head.start, field))
     }
+}
+
+/// Adds the record of a row at the end of `bytes`: its state, and a product for each channel of the
+/// table. Whether it is a good row is not asked; a product has under 256 atoms.
+pub fn push_row(bytes: &mut Vec<u8>, state: u16, products: &[Vec<u16>]) {
+    let mut payload = state.to_le_bytes().to_vec();
+    for atoms in products {
+        payload.push(atoms.len() as u8);
+        payload.extend(atoms.iter().flat_map(|atom| atom.to_le_bytes()));
+    }
+    push_record(bytes, LIST_ROW, &payload);
 }
 
 /// Writes the first `rows` rows of a work table as a list to the front of `list` and gives the

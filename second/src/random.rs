@@ -3,9 +3,9 @@
 //! The same seed gives the same things everywhere. Tables come in shapes, chosen so that every
 //! verdict turns up often.
 
-use crate::list::LIST_ROW;
+use crate::list::push_row;
 use crate::product::{is_star, messages_of, single, star};
-use crate::record::{push_record, HEAD_BYTES};
+use crate::record::HEAD_BYTES;
 use crate::run::LOST;
 use crate::table::{Operation, Table, Transition, MESSAGES_MAX};
 use std::collections::VecDeque;
@@ -110,7 +110,7 @@ pub fn product_below(random: &mut Random, q: &[u16], atoms_max: usize) -> Vec<u1
 }
 
 /// An atom that means no more than this star.
-fn atom_of_star(random: &mut Random, f: u16) -> u16 {
+pub fn atom_of_star(random: &mut Random, f: u16) -> u16 {
     let one = single_of(random, f);
     match random.below(3) {
         0 => one,
@@ -441,13 +441,10 @@ pub fn list(random: &mut Random, table: &Table, rows_max: usize, atoms_max: usiz
         } else {
             random.state_of(table)
         };
-        let mut payload = state.to_le_bytes().to_vec();
-        for _ in 0..table.channels {
-            let atoms = product(random, table.messages, atoms_max);
-            payload.push(atoms.len() as u8);
-            payload.extend(atoms.iter().flat_map(|atom| atom.to_le_bytes()));
-        }
-        push_record(&mut bytes, LIST_ROW, &payload);
+        let products: Vec<Vec<u16>> = (0..table.channels)
+            .map(|_| product(random, table.messages, atoms_max))
+            .collect();
+        push_row(&mut bytes, state, &products);
     }
     bytes
 }

@@ -32,6 +32,18 @@ pub enum Verdict {
     },
 }
 
+impl Verdict {
+    /// The rows made.
+    pub fn rows(&self) -> usize {
+        match *self {
+            Verdict::Safe { rows }
+            | Verdict::Unsafe { rows, .. }
+            | Verdict::RowsFull { rows, .. }
+            | Verdict::AtomsFull { rows, .. } => rows,
+        }
+    }
+}
+
 /// Searches a table file over lent words. Rows go to `work`, and with an unsafe verdict the run
 /// goes to `run`; no other word is touched.
 pub fn search(table: &[u8], work: &mut [u16], run: &mut [u16]) -> Result<Verdict, Refusal> {

@@ -85,6 +85,7 @@ pub fn write_row(words: &mut [u16], row: &Row, parent: u16, transition: u16) {
     }
 }
 
-fn count_place(channel: usize) -> usize {
+/// Where a row has the count of a channel; its atoms stand behind it.
+pub fn count_place(channel: usize) -> usize {
     3 + channel * CHANNEL_WORDS
 }

@@ -5,8 +5,11 @@ mod common;
 use common::product;
 use second::calls::{Call, Function, Lent, Library, Reply};
 use second::compare::{Comparison, Wanted, CHECK_TABLE, COMPARISONS};
+use second::list::read_list;
 use second::product::contained;
 use second::random::{self, Random};
+use second::row::Row;
+use second::table::{Table, Transition};
 use std::io;
 
 /// A library made of the second program's replies, each changed a little.
@@ -59,6 +62,13 @@ fn words_mut(lent: &mut Lent) -> &mut Vec<u16> {
     match lent {
         Lent::Words(words) => words,
         _ => panic!("{lent:?} are no words"),
+    }
+}
+
+fn bytes_mut(lent: &mut Lent) -> &mut Vec<u8> {
+    match lent {
+        Lent::Bytes(bytes) => bytes,
+        _ => panic!("{lent:?} are no bytes"),
     }
 }
 
@@ -278,6 +288,140 @@ fn slips_of_the_replay_are_found() {
 }
 
 #[test]
+fn slips_of_the_writer_are_found() {
+    found("write_list", |_, reply| reply.wrote_outside = true);
+    // A byte behind the list.
+    found("write_list", |_, reply| {
+        let bytes = numbers(reply)[0] as usize;
+        if reply.answer == 0 {
+            if let Some(behind) = bytes_mut(&mut reply.lent[3]).get_mut(bytes) {
+                *behind ^= 1;
+            }
+        }
+    });
+    // The record of a row with another kind.
+    found("write_list", |_, reply| {
+        if reply.answer == 0 && numbers(reply)[0] > 0 {
+            bytes_mut(&mut reply.lent[3])[2] = 3;
+        }
+    });
+    // A count over the room placed at the count.
+    found("write_list", |call, reply| {
+        let room = (words(&call.lent[1]).len() / 103).min(1024) as u64;
+        if refused(reply, 9) && count(call) > room {
+            numbers(reply)[2] = count(call);
+        }
+    });
+    // A count of which only the low half is read.
+    found("write_list", |call, reply| {
+        if refused(reply, 9) && count(call) == 1 << 32 {
+            reply.answer = 0;
+        }
+    });
+    // A list that just fits refused.
+    found("write_list", |call, reply| {
+        let bytes = numbers(reply)[0];
+        let fits = matches!(&call.lent[3], Lent::Bytes(list) if list.len() as u64 == bytes);
+        if reply.answer == 0 && fits {
+            reply.answer = 4;
+        }
+    });
+}
+
+/// How many rows the writer is to write.
+fn count(call: &Call) -> u64 {
+    match &call.lent[2] {
+        Lent::Numbers(numbers) => numbers[0],
+        lent => panic!("{lent:?} is no number"),
+    }
+}
+
+#[test]
+fn slips_of_the_judge_are_found() {
+    found("judge", |_, reply| reply.wrote_outside = true);
+    // A list without the start accepted.
+    found("judge", |_, reply| {
+        if reply.answer == 1 {
+            reply.answer = 0;
+        }
+    });
+    // Rows trusted, whoever made them.
+    found("judge", |_, reply| {
+        if reply.answer == 3 {
+            reply.answer = 0;
+            numbers(reply).fill(0);
+        }
+    });
+    // Row and transition exchanged.
+    found("judge", |_, reply| {
+        if reply.answer == 3 {
+            numbers(reply).swap(0, 1);
+        }
+    });
+    // The refusal of a list told as one of the table.
+    found("judge", |_, reply| {
+        if reply.answer == 4 {
+            numbers(reply)[1] = 0;
+        }
+    });
+    // Row 1,025 taken.
+    found("judge", |_, reply| {
+        if refused(reply, 6) {
+            reply.answer = 0;
+            numbers(reply).fill(0);
+        }
+    });
+}
+
+/// Example B's list, without its last row, and without its first.
+#[test]
+fn the_list_of_example_b_is_judged_first() {
+    let judged = |case| {
+        let mut reply = named("judge").case(1, case).reply();
+        (reply.answer, numbers(&mut reply).clone())
+    };
+    assert_eq!(judged(0), (0, vec![0, 0, 0]));
+    assert_eq!(judged(1), (3, vec![1, 1, 0]));
+    assert_eq!(judged(2), (0, vec![0, 0, 0]));
+}
+
+/// The slip of letting two rows have an outcome between them, each some of its channels.
+#[test]
+fn two_rows_between_them_are_found() {
+    let (well, out) = compared(named("judge"), 20_000, |call, reply| {
+        if reply.answer == 3 && is_closed_between_rows(call) {
+            reply.answer = 0;
+            numbers(reply).fill(0);
+        }
+    });
+    assert!(!well, "{out}");
+}
+
+fn is_closed_between_rows(call: &Call) -> bool {
+    let [Lent::Bytes(table), Lent::Bytes(list), _] = &call.lent[..] else {
+        panic!("no table and list");
+    };
+    let table = Table::read(table).expect("a good table");
+    let list = read_list(&table, list).expect("a good list");
+    let rows: Vec<Row> = list.iter().map(|row| row.row()).collect();
+    let has = |outcome: &Row, channel: usize| {
+        let like = rows.iter().filter(|row| row.state == outcome.state);
+        like.map(|row| row.products[channel])
+            .any(|product| contained(outcome.products[channel], product))
+    };
+    let is_settled = |row: &Row, transition: &Transition| {
+        transition.source != row.state
+            || row.outcome(transition).map_or(true, |outcome| {
+                (0..4).all(|channel| has(&outcome.row(), channel))
+            })
+    };
+    let mut rows_and_moves = rows
+        .iter()
+        .flat_map(|row| table.transitions.iter().map(move |moved| (row, moved)));
+    rows_and_moves.all(|(row, moved)| is_settled(row, moved))
+}
+
+#[test]
 fn every_call_of_a_comparison_is_its_own_function() {
     let function = |name| named(name).case(1, 0).function;
     assert_eq!(function("contained"), Function::Contained);
@@ -286,6 +430,8 @@ fn every_call_of_a_comparison_is_its_own_function() {
     assert_eq!(function("add"), Function::Normal);
     assert_eq!(function("search"), Function::Search);
     assert_eq!(function("replay"), Function::Replay);
+    assert_eq!(function("write_list"), Function::WriteList);
+    assert_eq!(function("judge"), Function::Judge);
     assert_eq!(CHECK_TABLE.case(1, 0).function, Function::CheckTable);
 }
 

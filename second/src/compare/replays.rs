@@ -4,13 +4,13 @@
 //! can be played, or from nowhere; some are as long as a run may be, or longer. The first cases are
 //! the same for every seed: the examples with the empty run, every short run, and their own runs.
 
-use super::searches::chains;
-use super::{refusal, Comparison, Kind};
-use crate::calls::{Call, Lent};
+use super::searches::{chains, searched};
+use super::{number, refusal, words, Comparison, Kind};
+use crate::calls::Call;
 use crate::random::{self, Random, Shape};
 use crate::replay::RUN_WORDS_MAX;
 use crate::run::LOST;
-use crate::search::{search, Verdict};
+use crate::search::Verdict;
 use crate::table::{Operation, Table, Transition};
 use crate::work::{ROOM_MAX, ROW_WORDS};
 use std::collections::VecDeque;
@@ -25,32 +25,22 @@ pub const REPLAY: Comparison = Comparison {
         Kind::new("ends elsewhere", 15, |_, reply| reply.answer == 1),
         Kind::new("stuck", 15, |_, reply| reply.answer == 2),
         Kind::new("table refused", 3, |call, reply| {
-            refusal(reply).is_some() && words(call).len() <= RUN_WORDS_MAX
+            refusal(reply).is_some() && words(call, 1).len() <= RUN_WORDS_MAX
         }),
         Kind::new("run refused", 1, |call, reply| {
-            refusal(reply) == Some(6) && words(call).len() > RUN_WORDS_MAX
+            refusal(reply) == Some(6) && words(call, 1).len() > RUN_WORDS_MAX
         }),
         Kind::new("five steps or more to bad", 5, |call, reply| {
-            reply.answer == 0 && words(call).len() >= 5
+            reply.answer == 0 && words(call, 1).len() >= 5
         }),
         Kind::new("stuck after five steps", 2, |_, reply| {
-            match &reply.lent[2] {
-                Lent::Numbers(numbers) => reply.answer == 2 && numbers[0] >= 5,
-                _ => false,
-            }
+            reply.answer == 2 && number(reply, 0) >= 5
         }),
         Kind::new("2,048 words played", 1, |call, reply| {
-            reply.answer < 2 && words(call).len() == RUN_WORDS_MAX
+            reply.answer < 2 && words(call, 1).len() == RUN_WORDS_MAX
         }),
     ],
 };
-
-fn words(call: &Call) -> &[u16] {
-    match &call.lent[1] {
-        Lent::Words(words) => words,
-        lent => panic!("{lent:?} are no words"),
-    }
-}
 
 fn replay_call(random: &mut Random, case: usize) -> Call {
     static FIXED: OnceLock<Vec<(Vec<u8>, Vec<u16>)>> = OnceLock::new();
@@ -105,9 +95,9 @@ fn fixed_cases() -> Vec<(Vec<u8>, Vec<u16>)> {
 
 /// The run that the second program finds with room for so many rows, if it finds the table unsafe.
 fn found_run(table: &[u8], rows: usize) -> Option<Vec<u16>> {
-    let (mut work, mut run) = (vec![0; rows * ROW_WORDS], vec![0; 2 * rows]);
-    match search(table, &mut work, &mut run) {
-        Ok(Verdict::Unsafe { steps, .. }) => Some(run[..steps].to_vec()),
+    let searched = searched(table, vec![0; rows * ROW_WORDS]);
+    match searched.verdict {
+        Some(Verdict::Unsafe { steps, .. }) => Some(searched.run[..steps].to_vec()),
         _ => None,
     }
 }

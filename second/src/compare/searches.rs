@@ -5,9 +5,10 @@
 //! there may be, with work tables and run buffers about each length that decides. The later ones are random tables, a few of them damaged, with
 //! rooms from 0 to 1,024. Both buffers are filled with a pattern first, so that a write shows.
 
-use super::{refusal, Comparison, Kind};
-use crate::calls::{Call, Lent, Reply};
+use super::{number, refusal, words, Comparison, Kind};
+use crate::calls::Call;
 use crate::random::{self, Random, Shape};
+use crate::search::{search, Verdict};
 use crate::table::{Operation, Table, Transition};
 use crate::work::{room, ROOM_MAX, ROW_WORDS};
 use std::sync::OnceLock;
@@ -37,32 +38,16 @@ pub const SEARCH: Comparison = Comparison {
             reply.answer == 1 && number(reply, 1) >= 5
         }),
         Kind::new("run buffer just enough", 20, |call, reply| {
-            reply.answer < 4 && words(call, 2) == 2 * room(words(call, 1))
+            reply.answer < 4 && words(call, 2).len() == 2 * room(words(call, 1).len())
         }),
         Kind::new("words behind the last row", 30, |call, reply| {
-            reply.answer < 4 && words(call, 1) % ROW_WORDS != 0
+            reply.answer < 4 && words(call, 1).len() % ROW_WORDS != 0
         }),
         Kind::new("room over 256", 1, |call, reply| {
-            reply.answer < 4 && room(words(call, 1)) > 256
+            reply.answer < 4 && room(words(call, 1).len()) > 256
         }),
     ],
 };
-
-/// One of the three numbers of an answer.
-fn number(reply: &Reply, place: usize) -> u64 {
-    match reply.lent.last() {
-        Some(Lent::Numbers(numbers)) => numbers[place],
-        _ => panic!("{reply:?} has no numbers"),
-    }
-}
-
-/// How many words are lent there.
-fn words(call: &Call, place: usize) -> usize {
-    match &call.lent[place] {
-        Lent::Words(words) => words.len(),
-        lent => panic!("{lent:?} are no words"),
-    }
-}
 
 fn search_call(random: &mut Random, case: usize) -> Call {
     static FIXED: OnceLock<Vec<Lengths>> = OnceLock::new();
@@ -76,15 +61,39 @@ fn search_call(random: &mut Random, case: usize) -> Call {
 }
 
 /// So many words, no two neighbours alike; each buffer has a pattern of its own.
-fn pattern(random: &mut Random, words: usize) -> Vec<u16> {
+pub fn pattern(random: &mut Random, words: usize) -> Vec<u16> {
     let first = random.number() as u16;
     let words = (0..words).map(|place| (place as u16).wrapping_mul(0x9E37).wrapping_add(first));
     words.collect()
 }
 
+// ---- rows and runs for other calls
+
+/// What a search finds, and what it leaves in its buffers.
+pub struct Searched {
+    /// None where the search refuses.
+    pub verdict: Option<Verdict>,
+    pub work: Vec<u16>,
+    pub run: Vec<u16>,
+}
+
+impl Searched {
+    /// How many rows stand in the work table.
+    pub fn rows(&self) -> usize {
+        self.verdict.map_or(0, |verdict| verdict.rows())
+    }
+}
+
+/// Searches the table in these words by the second program, with a run buffer that just does.
+pub fn searched(table: &[u8], mut work: Vec<u16>) -> Searched {
+    let mut run = vec![0; 2 * room(work.len())];
+    let verdict = search(table, &mut work, &mut run).ok();
+    Searched { verdict, work, run }
+}
+
 // ---- the examples and chains
 
-const EXAMPLES: [&[u8]; 6] = [
+pub const EXAMPLES: [&[u8]; 6] = [
     include_bytes!("../../../examples/a.table"),
     include_bytes!("../../../examples/b.table"),
     include_bytes!("../../../examples/c.table"),

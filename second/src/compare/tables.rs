@@ -97,20 +97,22 @@ fn bad(state: u16) -> Vec<u8> {
     record(3, &state.to_le_bytes())
 }
 
-fn record(kind: u16, payload: &[u8]) -> Vec<u8> {
+/// A record with the payload's own length.
+pub fn record(kind: u16, payload: &[u8]) -> Vec<u8> {
     let mut bytes = Vec::new();
     push_record(&mut bytes, kind, payload);
     bytes
 }
 
-/// The table with bytes put over it at a place.
+/// The table or list with bytes put over it at a place.
 fn changed(table: &[u8], place: usize, bytes: &[u8]) -> Vec<u8> {
     let mut changed = table.to_vec();
     changed[place..place + bytes.len()].copy_from_slice(bytes);
     changed
 }
 
-fn every_byte_changed(table: &[u8]) -> impl Iterator<Item = Vec<u8>> + '_ {
+/// The table or list with each byte as each other.
+pub fn every_byte_changed(table: &[u8]) -> impl Iterator<Item = Vec<u8>> + '_ {
     (0..table.len()).flat_map(move |place| (0..=255).map(move |to| changed(table, place, &[to])))
 }
 
@@ -125,7 +127,7 @@ fn every_number_at_limits(table: &[u8]) -> impl Iterator<Item = Vec<u8>> + '_ {
 }
 
 /// Two records exchanged, one record put before another once more, one left out.
-fn records_moved(records: &[Vec<u8>]) -> Vec<Vec<u8>> {
+pub fn records_moved(records: &[Vec<u8>]) -> Vec<Vec<u8>> {
     let mut tables = Vec::new();
     for one in 0..records.len() {
         for other in 0..records.len() {

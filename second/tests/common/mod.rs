@@ -113,12 +113,7 @@ pub type PlainRow = (u16, Vec<Vec<u16>>);
 
 impl Searched {
     pub fn row_count(&self) -> usize {
-        match self.verdict {
-            Verdict::Safe { rows }
-            | Verdict::Unsafe { rows, .. }
-            | Verdict::RowsFull { rows, .. }
-            | Verdict::AtomsFull { rows, .. } => rows,
-        }
+        self.verdict.rows()
     }
 
     /// The rows made, read from the words as the rules lay them out.
