@@ -13,9 +13,12 @@ use crate::calls::{Call, Lent, Library, Reply};
 use crate::driver::Driver;
 use crate::random::Random;
 use std::io::{self, Write};
+use std::ops::Range;
+
+pub use searches::chains;
 
 /// Calls that are on their way at once.
-const BATCH: usize = 512;
+pub const BATCH: usize = 512;
 /// Differences of one comparison that are printed in full.
 const PRINTED: usize = 3;
 
@@ -168,25 +171,16 @@ impl Comparison {
         let mut counts = vec![0; self.kinds.len()];
         let mut differences = 0;
         for first in (0..cases).step_by(BATCH) {
-            let end = cases.min(first + BATCH);
-            let calls: Vec<Call> = (first..end).map(|case| self.case(seed, case)).collect();
-            let replies = library.replies(&calls).map_err(|error| {
-                let at = format!(
-                    "compare {name}: cases {first} to {} of seed {seed}",
-                    end - 1
-                );
-                io::Error::new(error.kind(), format!("{at}: {error}"))
-            })?;
-            for (case, (call, reply)) in (first..).zip(calls.iter().zip(&replies)) {
-                let second = call.reply();
-                self.count_kinds(call, &second, &mut counts);
-                if *reply == second {
+            for replied in self.replied(library, seed, first..cases.min(first + BATCH))? {
+                self.count_kinds(&replied.call, &replied.second, &mut counts);
+                if replied.is_alike() {
                     continue;
                 }
                 differences += 1;
                 if differences <= PRINTED {
+                    let case = replied.case;
                     writeln!(out, "compare {name}: case {case} of seed {seed} differs")?;
-                    print_difference(out, call, reply, &second)?;
+                    replied.print(out)?;
                 }
             }
         }
@@ -196,6 +190,25 @@ impl Comparison {
             "compare {name}: {cases} compared, {differences} differ (seed {seed})"
         )?;
         Ok(differences == 0 && (fair || cases < self.cases))
+    }
+
+    /// What both sides reply to these cases, which are on their way at once.
+    pub fn replied(
+        &self,
+        library: &mut impl Library,
+        seed: u64,
+        cases: Range<usize>,
+    ) -> io::Result<Vec<Replied>> {
+        let calls: Vec<Call> = cases.clone().map(|case| self.case(seed, case)).collect();
+        let replies = library.replies(&calls).map_err(|error| {
+            let (name, first, last) = (self.name, cases.start, cases.end - 1);
+            let at = format!("{name}: cases {first} to {last} of seed {seed}");
+            io::Error::new(error.kind(), format!("{at}: {error}"))
+        })?;
+        let both = cases.zip(calls.into_iter().zip(replies));
+        Ok(both
+            .map(|(case, (call, library))| Replied::new(case, call, library))
+            .collect())
     }
 
     /// The call of a case. The seed is scattered first, so that neighbouring seeds share no cases.
@@ -237,18 +250,38 @@ impl Comparison {
     }
 }
 
-fn print_difference(
-    out: &mut impl Write,
-    call: &Call,
-    library: &Reply,
-    second: &Reply,
-) -> io::Result<()> {
-    writeln!(out, "  function {:?}", call.function)?;
-    for lent in &call.lent {
-        writeln!(out, "  lent     {lent}")?;
+/// A call and what both sides replied to it.
+pub struct Replied {
+    pub case: usize,
+    pub call: Call,
+    pub library: Reply,
+    pub second: Reply,
+}
+
+impl Replied {
+    /// The second program replies here.
+    pub fn new(case: usize, call: Call, library: Reply) -> Replied {
+        let second = call.reply();
+        Replied {
+            case,
+            call,
+            library,
+            second,
+        }
     }
-    print_reply(out, "library", call, library)?;
-    print_reply(out, "second", call, second)
+
+    pub fn is_alike(&self) -> bool {
+        self.library == self.second
+    }
+
+    pub fn print(&self, out: &mut impl Write) -> io::Result<()> {
+        writeln!(out, "  function {:?}", self.call.function)?;
+        for lent in &self.call.lent {
+            writeln!(out, "  lent     {lent}")?;
+        }
+        print_reply(out, "library", &self.call, &self.library)?;
+        print_reply(out, "second", &self.call, &self.second)
+    }
 }
 
 fn print_reply(out: &mut impl Write, whose: &str, call: &Call, reply: &Reply) -> io::Result<()> {

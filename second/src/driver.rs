@@ -9,7 +9,7 @@ use std::thread;
 /// What starts a program of the repository.
 const RUN: &str = "./run";
 /// How many bytes of a pattern stand before and behind all lent memory.
-const GUARD_BYTES: usize = 32;
+pub const GUARD_BYTES: usize = 32;
 const GUARD_FIRST: u8 = 0xC0;
 
 /// A driver that runs.
@@ -95,7 +95,7 @@ fn write_number(out: &mut impl Write, number: usize) -> io::Result<()> {
 }
 
 /// Reads the reply to a call. What comes back is as long as what was lent.
-fn read_reply(input: &mut impl Read, call: &Call) -> io::Result<Reply> {
+pub fn read_reply(input: &mut impl Read, call: &Call) -> io::Result<Reply> {
     let answer = u32::from_le_bytes(read_bytes(input)?);
     let mut lent_after = Vec::new();
     let mut guards_hold = true;
@@ -120,7 +120,12 @@ fn read_bytes<const N: usize>(input: &mut impl Read) -> io::Result<[u8; N]> {
 }
 
 fn is_guard(bytes: [u8; GUARD_BYTES]) -> bool {
-    bytes.into_iter().eq((GUARD_FIRST..).take(GUARD_BYTES))
+    bytes == guard()
+}
+
+/// The pattern: no two bytes alike, so that one copied from its neighbour shows.
+pub fn guard() -> [u8; GUARD_BYTES] {
+    std::array::from_fn(|place| GUARD_FIRST + place as u8)
 }
 
 fn bytes_of(lent: &Lent) -> Vec<u8> {

@@ -21,11 +21,15 @@
 //! - [`calls`]: calls of the C library as values
 //! - [`driver`]: the proved library, called through its driver
 //! - [`compare`]: the comparisons of the two
+//! - [`fuzz`]: longer runs of them, until a difference, which is made small
+//! - [`bench`]: the two timed in turns
 
 pub mod answers;
+pub mod bench;
 pub mod calls;
 pub mod compare;
 pub mod driver;
+pub mod fuzz;
 pub mod judge;
 pub mod list;
 pub mod output;

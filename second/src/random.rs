@@ -452,11 +452,17 @@ pub fn list(random: &mut Random, table: &Table, rows_max: usize, atoms_max: usiz
 /// Run words that mostly can be played, with some losses and a few slips; half of those that come to
 /// a bad state end there.
 pub fn run(random: &mut Random, table: &Table, steps_max: usize) -> Vec<u16> {
+    let steps = random.between(0, steps_max);
+    walk(random, table, steps, 1)
+}
+
+/// Such a run of so many steps, or fewer where it cannot go on, with that many slips to thirty steps.
+pub fn walk(random: &mut Random, table: &Table, steps: usize, slips: usize) -> Vec<u16> {
     let mut words = Vec::new();
     let mut state = table.start;
     let mut contents = vec![VecDeque::new(); table.channels.into()];
-    for _ in 0..random.between(0, steps_max) {
-        let slip = random.chance(1, 30);
+    for _ in 0..steps {
+        let slip = random.chance(slips, 30);
         let fits = |transition: &Transition| match transition.operation {
             Operation::Receive { channel, message } => {
                 slip || contents[usize::from(channel)].front() == Some(&message)
@@ -547,7 +553,7 @@ fn damaged_once(random: &mut Random, bytes: &[u8]) -> Vec<u8> {
 }
 
 /// The bytes cut into records, the last one perhaps short.
-fn records_of(bytes: &[u8]) -> Vec<Vec<u8>> {
+pub fn records_of(bytes: &[u8]) -> Vec<Vec<u8>> {
     let mut records = Vec::new();
     let mut rest = bytes;
     while !rest.is_empty() {

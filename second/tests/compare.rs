@@ -2,29 +2,14 @@
 
 mod common;
 
-use common::product;
-use second::calls::{Call, Function, Lent, Library, Reply};
+use common::{numbers, product, words, Changed};
+use second::calls::{Call, Function, Lent, Reply};
 use second::compare::{Comparison, Wanted, CHECK_TABLE, COMPARISONS};
 use second::list::read_list;
 use second::product::contained;
 use second::random::{self, Random};
 use second::row::Row;
 use second::table::{Table, Transition};
-use std::io;
-
-/// A library made of the second program's replies, each changed a little.
-struct Changed(fn(&Call, &mut Reply));
-
-impl Library for Changed {
-    fn replies(&mut self, calls: &[Call]) -> io::Result<Vec<Reply>> {
-        let changed = |call: &Call| {
-            let mut reply = call.reply();
-            (self.0)(call, &mut reply);
-            reply
-        };
-        Ok(calls.iter().map(changed).collect())
-    }
-}
 
 fn named(name: &str) -> &'static Comparison {
     COMPARISONS
@@ -49,13 +34,6 @@ fn found(name: &str, change: fn(&Call, &mut Reply)) {
     let (well, out) = compared(named(name), 3000, change);
     assert!(!well, "{name}: {out}");
     assert!(out.contains("differs\n"), "{out}");
-}
-
-fn words(lent: &Lent) -> &[u16] {
-    match lent {
-        Lent::Words(words) => words,
-        _ => panic!("{lent:?} are no words"),
-    }
 }
 
 fn words_mut(lent: &mut Lent) -> &mut Vec<u16> {
@@ -208,14 +186,6 @@ fn slips_of_the_table_check_are_found() {
             numbers(reply)[2] -= 6;
         }
     });
-}
-
-/// The three numbers of an answer are lent last.
-fn numbers(reply: &mut Reply) -> &mut Vec<u64> {
-    match reply.lent.last_mut() {
-        Some(Lent::Numbers(numbers)) => numbers,
-        _ => panic!("no numbers"),
-    }
 }
 
 fn refused(reply: &mut Reply, number: u64) -> bool {

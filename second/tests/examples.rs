@@ -18,11 +18,14 @@ fn file(name: &str, ending: &str) -> Vec<u8> {
     fs::read(&path).unwrap_or_else(|error| panic!("{}: {error}", path.display()))
 }
 
-/// The names of the examples: every file there is one of three with its name.
+/// The names of the examples: every file there is one of three with its name. Folders have programs.
 fn names() -> Vec<String> {
     let mut names = Vec::new();
     for entry in fs::read_dir(folder()).expect("the examples") {
         let path = entry.expect("a file").path();
+        if path.is_dir() {
+            continue;
+        }
         let name = path
             .file_stem()
             .expect("a name")

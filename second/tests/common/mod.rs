@@ -2,10 +2,12 @@
 //! differently from the library's algorithms.
 #![allow(dead_code)] // each test file uses its part
 
+use second::calls::{Call, Lent, Library, Reply};
 use second::product::{is_star, messages_of};
 use second::search::{search, Verdict};
 use second::text::pack;
 use second::work::{self, ROW_WORDS};
+use std::io;
 
 /// A value that lent buffers are filled with, to see what is written.
 pub const UNTOUCHED: u16 = 0xABCD;
@@ -334,5 +336,36 @@ impl System {
 
     pub fn is_in_some_row(&self, configuration: &Configuration, rows: &[PlainRow]) -> bool {
         rows.iter().any(|row| self.is_in_row(configuration, row))
+    }
+}
+
+// ---- a library to compare with ----
+
+/// A library made of the second program's replies, each changed a little.
+pub struct Changed(pub fn(&Call, &mut Reply));
+
+impl Library for Changed {
+    fn replies(&mut self, calls: &[Call]) -> io::Result<Vec<Reply>> {
+        let changed = |call: &Call| {
+            let mut reply = call.reply();
+            (self.0)(call, &mut reply);
+            reply
+        };
+        Ok(calls.iter().map(changed).collect())
+    }
+}
+
+pub fn words(lent: &Lent) -> &[u16] {
+    match lent {
+        Lent::Words(words) => words,
+        _ => panic!("{lent:?} are no words"),
+    }
+}
+
+/// The three numbers of an answer are lent last.
+pub fn numbers(reply: &mut Reply) -> &mut Vec<u64> {
+    match reply.lent.last_mut() {
+        Some(Lent::Numbers(numbers)) => numbers,
+        _ => panic!("no numbers"),
     }
 }
