@@ -1,4 +1,4 @@
--- Where the search says safe and the writer writes, the judge accepts the bytes.
+-- Where the search says safe and the writer writes, the judge accepts the bytes; and what is accepted is not unsafe.
 use mathlib.Core.Path.{_≡_, refl, sym, ap, subst, _∙_}
 use mathlib.Core.List.{List, map, map-map}
 use Prim.Native.Nat.{ℕ, _≤_}
@@ -39,9 +39,13 @@ use Rattle.judgement.specs.Judge.{accepted, judge}
 use Rattle.judge.specs.Judging.{found, judgeFor, judgeGood, judgeWith, judgeOf, Judges}
 use Rattle.judge.specs.declared.judging.Answer as judged
 use Rattle.judge.specs.declared.judging.Answer.the-variants.{Accepted}
+use Rattle.judge.proofs.JudgeLaws.{accepted-sound}
+use Rattle.replay.specs.Replaying.{Replays}
+use Rattle.replay.specs.declared.replays.Answer.the-variants.{ReachesBad}
+use Rattle.replay.proofs.ReplayLaws.{reaches-bad}
 use Rattle.agreement.proofs.SafeLaws as agreed
 use Rattle.agreement.proofs.SafeLaws.{safe-accepted}
-use Rattle.agreement.proofs.CallLaws.{every-result}
+use Rattle.agreement.proofs.CallLaws.{every-result, unsafe-call}
 
 module _ (t : List ℕ) where
   abbrev S : System
@@ -138,3 +142,14 @@ safe-judged t work run r work′ run′ d n e list list′ k w f q p =
     rows-are =
         ap (rowsIn (c .shape .channels) work′) (sym (c .count))
         ∙ rows-held work′ (x .rows) work (d .rows) (c .narrow) (c .shape .channels) few (c .shape .messages) (c .rows-of)
+
+-- ACCEPTED RULES OUT UNSAFE: a list that the judge accepts rules out every run that the replay plays to a bad state, and that the search says unsafe.
+pub accepted-no-bad-run : (t list run : List ℕ) (n : ℕ) → Judges t list Accepted → Replays t run (ReachesBad n) → ⊥
+accepted-no-bad-run t list run n p q =
+    let x = reaches-bad t run n q .2 in
+    accepted-sound t list p .3 (x .0) (x .1) (x .2)
+
+pub accepted-not-unsafe : (t list work run : List ℕ) (r : search.Answer) (work′ run′ : List ℕ) (n k : ℕ) → Judges t list Accepted → Searches t work run r work′ run′ → r ≡ Unsafe n k → ⊥
+accepted-not-unsafe t list work run r work′ run′ n k p d e =
+    let x = unsafe-call t work run r work′ run′ d n k e in
+    accepted-sound t list p .3 (x .0) (x .1) (x .2)

@@ -4,11 +4,11 @@ ghost use lib.ListN.{length};
 ghost use Rattle.table.specs.Systems.{GoodTable};
 ghost use Rattle.wording.specs.Written.{Written};
 ghost use Rattle.checker.specs.Output.{outputOf, foundText};
-use crate::verdicts::write_verdict;
 use search::searches::search_good;
 use table::Checked;
 use table::Shape;
 use table::check_table;
+use verdicts::write_verdict;
 use wording::lines::fault_line;
 use wording::lines::too_long_line;
 

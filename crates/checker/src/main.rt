@@ -1,7 +1,6 @@
 // The checking program: it reads a table from standard input, searches with room for 256 rows, and writes what it found.
 mod answers;
 mod program;
-mod verdicts;
 
 use crate::program::check_input;
 

@@ -1,6 +1,7 @@
--- What the program writes, as lists of bytes.
+-- What the programs write, as lists of bytes.
 pub mod Words
 pub mod Numbers
 pub mod Written
 pub mod Lines
+pub mod Answers
 pub mod Steps

@@ -15,6 +15,10 @@ oneLine word n = counted word n ++ endWord
 unfoldable pub twoLine : List ℕ → ℕ → List ℕ → ℕ → List ℕ
 twoLine first a second b = counted first a ++ counted second b ++ endWord
 
+-- A line of three.
+unfoldable pub threeLine : List ℕ → ℕ → List ℕ → ℕ → List ℕ → ℕ → List ℕ
+threeLine first a second b third c = counted first a ++ counted second b ++ counted third c ++ endWord
+
 abbrev pub safeLine : ℕ → List ℕ
 safeLine rows = oneLine safeWord rows
 

@@ -51,3 +51,44 @@ quietWord = bytesOf " quiet"
 
 abbrev pub endWord : List ℕ
 endWord = bytesOf "\n"
+
+-- ---- the words of the programs that prove, judge and replay
+
+abbrev pub bytesWord : List ℕ
+bytesWord = bytesOf "list bytes "
+
+abbrev pub acceptedWord : List ℕ
+acceptedWord = bytesOf "accepted"
+
+abbrev pub noStartWord : List ℕ
+noStartWord = bytesOf "no start"
+
+abbrev pub badRowWord : List ℕ
+badRowWord = bytesOf "bad row "
+
+abbrev pub notClosedWord : List ℕ
+notClosedWord = bytesOf "not closed "
+
+abbrev pub reachesBadWord : List ℕ
+reachesBadWord = bytesOf "reaches bad "
+
+abbrev pub stuckWord : List ℕ
+stuckWord = bytesOf "stuck "
+
+abbrev pub elsewhereWord : List ℕ
+elsewhereWord = bytesOf "ends elsewhere "
+
+abbrev pub noRunWord : List ℕ
+noRunWord = bytesOf "no run at line "
+
+abbrev pub inputWord : List ℕ
+inputWord = bytesOf " input "
+
+abbrev pub longTableWord : List ℕ
+longTableWord = bytesOf "table too long"
+
+abbrev pub longListWord : List ℕ
+longListWord = bytesOf "list too long"
+
+abbrev pub longRunWord : List ℕ
+longRunWord = bytesOf "run too long"

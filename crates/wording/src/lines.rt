@@ -2,7 +2,7 @@
 ghost use Prim.Native.Nat.{_+_, _≤_};
 ghost use lib.ListN.{length};
 ghost use Rattle.table.specs.Answers.{numberOf, placeOf};
-ghost use Rattle.wording.specs.Lines.{counted, oneLine, twoLine, safeLine, unsafeLine, rowsFullLine, atomsFullLine, refusedLine, tooLongLine};
+ghost use Rattle.wording.specs.Lines.{counted, oneLine, twoLine, threeLine, safeLine, unsafeLine, rowsFullLine, atomsFullLine, refusedLine, tooLongLine};
 ghost use Rattle.wording.specs.Written.{Written};
 use crate::texts::write_bytes;
 use crate::texts::write_number;
@@ -20,7 +20,7 @@ fn write_counted(out: &mut [u8], at: usize, word: &[u8], n: usize) -> usize
 }
 
 // Writes a line of a word and a number. Inner.
-fn one_line(out: &mut [u8], at: usize, word: &[u8], n: usize) -> usize
+pub fn one_line(out: &mut [u8], at: usize, word: &[u8], n: usize) -> usize
     requires { ⌜ at + length (oneLine (now word) n) ≤ length (now out) ⌝ }
     ensures { λ r. ⌜ Written (now (out .entry)) at (oneLine (now (word .entry)) n) (now (out .exit)) r ⌝ }
 {
@@ -29,12 +29,32 @@ fn one_line(out: &mut [u8], at: usize, word: &[u8], n: usize) -> usize
 }
 
 // Writes a line of a word, a number, a second word and a second number. Inner.
-fn two_line(out: &mut [u8], at: usize, first: &[u8], a: usize, second: &[u8], b: usize) -> usize
+pub fn two_line(out: &mut [u8], at: usize, first: &[u8], a: usize, second: &[u8], b: usize) -> usize
     requires { ⌜ at + length (twoLine (now first) a (now second) b) ≤ length (now out) ⌝ }
     ensures { λ r. ⌜ Written (now (out .entry)) at (twoLine (now (first .entry)) a (now (second .entry)) b) (now (out .exit)) r ⌝ }
 {
     let next = write_counted(out, at, first, a);
     let end = write_counted(out, next, second, b);
+    write_bytes(out, end, b"\n")
+}
+
+// Writes a line of three words, each with a number behind it. Inner.
+pub fn three_line(
+    out: &mut [u8],
+    at: usize,
+    first: &[u8],
+    a: usize,
+    second: &[u8],
+    b: usize,
+    third: &[u8],
+    c: usize,
+) -> usize
+    requires { ⌜ at + length (threeLine (now first) a (now second) b (now third) c) ≤ length (now out) ⌝ }
+    ensures { λ r. ⌜ Written (now (out .entry)) at (threeLine (now (first .entry)) a (now (second .entry)) b (now (third .entry)) c) (now (out .exit)) r ⌝ }
+{
+    let next = write_counted(out, at, first, a);
+    let last = write_counted(out, next, second, b);
+    let end = write_counted(out, last, third, c);
     write_bytes(out, end, b"\n")
 }
 

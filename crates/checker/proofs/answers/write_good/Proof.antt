@@ -1,6 +1,7 @@
 -- What is said of the verdict is what the search finds.
 use native.Mathlib.Omega.{arith}
-use Rattle.checker.proofs.OutputLaws.{left-fits, found-told}
+use Rattle.verdicts.proofs.SaidLaws.{left-fits}
+use Rattle.checker.proofs.OutputLaws.{found-told}
 use Rattle.search.proofs.SearchLaws.{search-counted}
 use borrow.Author.Needs.{needs}
 use Rattle.checker.proofs.answers.write_good.Statement.{statement}
@@ -10,7 +11,7 @@ search-good-requires : tie.Need-search-good-requires
 search-good-requires c κs = search needs
 
 write-verdict-requires : tie.Need-write-verdict-requires
-write-verdict-requires c κs = (c .before .before .before .before .before .before .before .before .before .before .before .before .before .pre .0, omega arith, left-fits _ _ _ _ _ _ (c .before .before .before .before .before .before .search-good .ensures) (search-counted _ _ _), omega arith)
+write-verdict-requires c κs = (c .before .before .before .before .before .before .before .before .before .before .before .before .before .pre .0, left-fits _ _ _ _ _ _ (c .before .before .before .before .before .before .search-good .ensures) (search-counted _ _ _), omega arith)
 
 same-length : tie.Need-same-length
 same-length c = search needs

@@ -31,7 +31,7 @@ shared-slice-read-if1 : tie.Need-shared-slice-read-if1 Inv-channels μ-channels 
 shared-slice-read-if1 c = search needs
 
 channels-holds : tie.Need-channels-holds Inv-channels μ-channels Inv-rows μ-rows
-channels-holds c = looking-starts _ _ _ _ _ _ _ (omega arith) (cc) (c .before .before .before .rows .inv)
+channels-holds c = looking-starts _ _ _ _ _ _ _ (omega arith) (c .if1 .taken) (c .before .before .before .rows .inv)
 
 sub-c : tie.Need-sub-c Inv-channels μ-channels Inv-rows μ-rows
 sub-c c = search needs

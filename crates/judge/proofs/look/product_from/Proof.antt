@@ -1,3 +1,4 @@
+use mathlib.Core.Path.{refl}
 use native.Mathlib.Omega.{arith}
 use Rattle.judge.proofs.LookLaws.{from-is}
 use borrow.Author.Needs.{needs}
@@ -14,7 +15,7 @@ shared-slice-read-result : tie.Need-shared-slice-read-result
 shared-slice-read-result c = search needs
 
 returns : tie.Need-returns
-returns c = from-is _ _ _ _ _ _ (c .before .product-number .ensures) (cc)
+returns c = from-is _ _ _ _ _ _ (c .before .product-number .ensures) refl
 
 pub product-from-spec : {M : Type 1} → statement M
 product-from-spec =

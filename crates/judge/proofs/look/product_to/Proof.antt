@@ -1,3 +1,4 @@
+use mathlib.Core.Path.{refl}
 use native.Mathlib.Omega.{arith}
 use Rattle.judge.proofs.LookLaws.{to-is}
 use borrow.Author.Needs.{needs}
@@ -17,7 +18,7 @@ shared-slice-read-result : tie.Need-shared-slice-read-result
 shared-slice-read-result c = search needs
 
 returns : tie.Need-returns
-returns c = to-is _ _ _ _ _ _ (c .before .product-number .ensures) (cc)
+returns c = to-is _ _ _ _ _ _ (c .before .product-number .ensures) refl
 
 pub product-to-spec : {M : Type 1} → statement M
 product-to-spec =

@@ -1,4 +1,4 @@
-use mathlib.Core.Path.{_≡_}
+use mathlib.Core.Path.{_≡_, refl}
 use Prim.Native.Nat.{_-_}
 use native.Mathlib.Omega.{arith}
 use lib.ListN.{length}
@@ -15,7 +15,7 @@ abbrev μ-loop : tie.MeasureT-loop
 
 loop-holds : tie.Need-loop-holds Inv-loop μ-loop
 loop-holds c =
-    (cc, closed-begins _ _ _ _ _ _)
+    (refl, closed-begins _ _ _ _ _ _)
 
 open-move-requires : tie.Need-open-move-requires Inv-loop μ-loop
 open-move-requires c κs =

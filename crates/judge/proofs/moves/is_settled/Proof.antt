@@ -21,7 +21,7 @@ same-length c = search needs
 
 returns : tie.Need-returns
 returns c =
-    settled-impossible _ _ _ _ _ _ _ (cc) _ _ (c .before .before .before .before .outcome-into .ensures .0) (c .enum-told .given .1)
+    settled-impossible _ _ _ _ _ _ _ (c .before .before .before .before .before .before .before .if1 .taken) _ _ (c .before .before .before .before .outcome-into .ensures .0) (c .enum-told .given .1)
 
 enum-known-channel : tie.Need-enum-known-channel
 enum-known-channel c = search needs
@@ -36,7 +36,7 @@ same-length-2 c = search needs
 
 returns-2 : tie.Need-returns-2
 returns-2 c =
-    settled-covered _ _ _ _ _ _ _ (cc) _ _ (c .before .before .before .before .before .before .before .outcome-into .ensures .0) _ _ (c .before .before .before .channel .given .1) (c .is-covered .ensures)
+    settled-covered _ _ _ _ _ _ _ (c .before .before .before .before .before .before .before .before .before .before .if1 .taken) _ _ (c .before .before .before .before .before .before .before .outcome-into .ensures .0) _ _ (c .before .before .before .channel .given .1) (c .is-covered .ensures)
 
 returns-3 : tie.Need-returns-3
 returns-3 c =

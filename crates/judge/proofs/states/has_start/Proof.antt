@@ -25,7 +25,7 @@ shared-slice-read-if1 c = search needs
 
 returns : tie.Need-returns Inv-loop μ-loop
 returns c =
-    start-here _ _ _ _ (c .before .before .before .loop .inv) (omega arith) (cc)
+    start-here _ _ _ _ (c .before .before .before .loop .inv) (omega arith) (c .if1 .taken)
 
 add-i : tie.Need-add-i Inv-loop μ-loop
 add-i c = search needs

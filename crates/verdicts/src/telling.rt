@@ -1,10 +1,10 @@
 // What is said of a verdict.
-ghost use mathlib.Core.Path.{_≡_};
+ghost use Prim.Native.Nat.{_+_, _*_, _≤_};
 ghost use lib.ListN.{length};
 ghost use Rattle.table.specs.Systems.{GoodTable, systemOf};
 ghost use Rattle.wording.specs.Steps.{answerText};
 ghost use Rattle.wording.specs.Written.{Written};
-ghost use Rattle.checker.specs.Output.{saidBy, StepsFit};
+ghost use Rattle.verdicts.specs.Said.{saidBy, StepsFit};
 use search::searches::Answer;
 use table::Shape;
 use wording::lines::atoms_full_line;
@@ -14,9 +14,9 @@ use wording::lines::rows_full_line;
 use wording::lines::safe_line;
 use wording::steps::unsafe_text;
 
-// Writes the whole output for a verdict. The run of an unsafe table stands in the first words of `run`.
+// Writes all lines of a verdict. The run of an unsafe table stands in the first words of `run`. Inner.
 pub fn write_verdict(out: &mut [u8], t: &[u8], s: Shape, verdict: Answer, run: &[u16]) -> usize
-    requires { ⌜ GoodTable (now t) s × (length (now run) ≡ 512) × StepsFit verdict (now run) × (length (now out) ≡ 8192) ⌝ }
+    requires { ⌜ GoodTable (now t) s × StepsFit verdict (now run) × (60 + 14 * length (now run) ≤ length (now out)) ⌝ }
     ensures { λ r. ⌜ Written (now (out .entry)) 0 (answerText (systemOf (now (t .entry))) (saidBy verdict (now (run .entry)))) (now (out .exit)) r ⌝ }
 {
     match verdict {

@@ -1,9 +1,9 @@
 -- Known by its case, an answer has its own text.
 use native.Mathlib.Omega.{arith}
-use Rattle.checker.proofs.OutputLaws.{refused-room, safe-room, rows-full-room, atoms-full-room, fault-told, work-told, run-told, safe-told, unsafe-told, rows-full-told, atoms-full-told, steps-fit}
+use Rattle.verdicts.proofs.SaidLaws.{refused-room, safe-room, rows-full-room, atoms-full-room, fault-told, work-told, run-told, safe-told, unsafe-told, rows-full-told, atoms-full-told, steps-fit}
 use borrow.Author.Needs.{needs}
-use Rattle.checker.proofs.verdicts.write_verdict.Statement.{statement}
-use Rattle.checker.proofs.verdicts.write_verdict.Tie as tie
+use Rattle.verdicts.proofs.telling.write_verdict.Statement.{statement}
+use Rattle.verdicts.proofs.telling.write_verdict.Tie as tie
 
 enum-known-verdict : tie.Need-enum-known-verdict
 enum-known-verdict c = search needs
@@ -59,7 +59,7 @@ enum-known-verdict-5 c = search needs
 unsafe-text-requires : tie.Need-unsafe-text-requires
 unsafe-text-requires c κs =
     let s = c .before .before .before .before .before .before .before in
-    let k = steps-fit _ _ _ _ (c .before .before .verdict5 .given .1) (s .pre .2) in
+    let k = steps-fit _ _ _ _ (c .before .before .verdict5 .given .1) (s .pre .1) in
     (s .pre .0, k, omega arith)
 
 same-length-5 : tie.Need-same-length-5

@@ -1,0 +1,2 @@
+-- Laws of the program's output, for the proofs beside them.
+pub mod OutputLaws

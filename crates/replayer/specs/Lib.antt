@@ -1,0 +1,2 @@
+-- What the program writes for its inputs.
+pub mod Output
