@@ -1,8 +1,7 @@
 -- Where the search says safe and the writer writes, the judge accepts the bytes; and what is accepted is not unsafe.
-use mathlib.Core.Path.{_≡_, refl, sym, ap, subst, _∙_}
+use mathlib.Core.Path.{_≡_, sym, ap, subst, _∙_}
 use mathlib.Core.List.{List, map, map-map}
 use Prim.Native.Nat.{ℕ, _≤_}
-use native.Mathlib.Omega.{arith}
 use lib.ListN.{length, length-map}
 use Rattle.common.specs.Each.{Each}
 use Rattle.common.specs.Part.{part}
@@ -11,16 +10,13 @@ use Rattle.common.proofs.EachLaws.{at-each}
 use Rattle.common.proofs.FrontLaws.{front-part}
 use Rattle.meaning.specs.Systems.{System}
 use Rattle.rows.specs.Rows.{Row, RowOf}
-use Rattle.table.specs.Checking.{checkTable}
 use Rattle.table.specs.Systems.{GoodTable, systemOf}
 use Rattle.table.specs.declared.checks.Shape.{Shape}
-use Rattle.table.specs.declared.checks.Checked.{Checked}
-use Rattle.table.specs.declared.checks.Checked.the-variants as checked
 use Rattle.table.proofs.SystemLaws.{channels-are, messages-are, well-made, few-messages, few-channels}
-use Rattle.work.specs.Layout.{Stored, NarrowRows, Holds}
+use Rattle.work.specs.Layout.{Stored, NarrowRows}
 use Rattle.work.specs.Room.{roomOf}
 use Rattle.explore.specs.Search.{Entry, safe}
-use Rattle.explore.specs.Found.{Rows, Says}
+use Rattle.explore.specs.Found.{Rows}
 use Rattle.findings.specs.Search.{frameOf, firstEntry}
 use Rattle.findings.proofs.RowLaws.{entry-row-of}
 use Rattle.search.specs.Standing.{stored, storedOf}
@@ -29,10 +25,9 @@ use Rattle.search.specs.declared.searches.Answer as search
 use Rattle.search.specs.declared.searches.Answer.the-variants.{Refused, SmallWork, SmallRun, Safe, Unsafe, RowsFull, AtomsFull}
 use Rattle.search.proofs.FindingLaws.{Finding, bad-start, closed, reached, too-wide, no-room}
 use Rattle.search.proofs.StandingLaws.{narrow-rows}
-use Rattle.lists.specs.Reading.{checkList, rowsOf}
-use Rattle.lists.specs.declared.reading.ListChecked.the-variants.{Good}
+use Rattle.lists.specs.Reading.{rowsOf}
 use Rattle.writer.specs.Words.{rowsIn}
-use Rattle.writer.specs.Writing.{bytesFor, bytesWith, bytesOf, leftBy, writtenFor, writtenWith, written}
+use Rattle.writer.specs.Writing.{bytesFor, bytesWith, bytesOf, leftBy, writtenWith, written}
 use Rattle.writer.specs.declared.calls.Written.the-variants.{Bytes}
 use Rattle.writer.proofs.BackLaws.{WrittenBack, written-for-back, rows-held}
 use Rattle.judgement.specs.Judge.{accepted, judge}

@@ -1,5 +1,5 @@
 -- The answer of search, writer and judge in a row: how it comes about, and that accepted is said only of lists that the judge accepts.
-use mathlib.Core.Path.{_≡_, refl, sym, ap, subst, _∙_}
+use mathlib.Core.Path.{_≡_, refl, sym, ap, _∙_}
 use mathlib.Core.Logic.{_⊎_, inl, inr}
 use mathlib.Core.List.{List, [], _∷_}
 use mathlib.Core.Option.{Option, none, some}
@@ -9,7 +9,6 @@ use lib.ListN.{length, take}
 use denote.Enum.Declared.{tagOf}
 use types.Run.{OneOf, miss}
 use Rattle.common.specs.Front.{front}
-use Rattle.common.specs.Part.{part}
 use Rattle.common.proofs.ChoiceLaws.{lt-cases}
 use Rattle.common.proofs.FrontLaws.{front-part}
 use Rattle.common.proofs.PartLaws.{part-take}
@@ -31,7 +30,7 @@ use Rattle.judge.specs.Judging.{judgeOf}
 use Rattle.judge.proofs.judging.Answer as judge-enum
 use Rattle.judge.specs.declared.judging.Answer as judge
 use Rattle.judge.specs.declared.judging.Answer.the-variants as answer
-use Rattle.cautious.specs.Judged.{byJudge, byWriter, bySearch, listLeft, resultOf, workLeft, JudgesSearch}
+use Rattle.cautious.specs.Judged.{byJudge, byWriter, bySearch, listLeft, workLeft, JudgesSearch}
 use Rattle.cautious.specs.declared.judged.Judged.{Judged}
 use Rattle.cautious.specs.declared.judged.Judged.the-variants.{Accepted, Unwritten, Denied, NotSafe}
 

@@ -1,11 +1,11 @@
 -- The look over the rows: channel by channel, row by row.
 use mathlib.Core.Path.{_≡_, refl, sym, ap, subst, _∙_}
 use mathlib.Core.Bool.{Bool, true, false}
-use mathlib.Core.List.{List, [], _∷_}
-use Prim.Native.Nat.{ℕ, zero, suc, _+_, _-_, _*_, _<_, _≤_}
+use mathlib.Core.List.{List}
+use Prim.Native.Nat.{ℕ, suc, _+_, _-_, _*_, _<_, _≤_}
 use native.Mathlib.Omega.{arith}
 use lib.ListN.{length, getD}
-use Rattle.common.specs.Choice.{ifTrue, ifEq}
+use Rattle.common.specs.Choice.{ifTrue}
 use Rattle.common.specs.First.{anyOf}
 use Rattle.common.specs.Part.{part}
 use Rattle.common.proofs.ChoiceLaws.{true-then, true-else, lt-then, eq-then, eq-else}
@@ -13,7 +13,7 @@ use Rattle.meaning.specs.Systems.{put}
 use Rattle.meaning.proofs.PutLaws.{put-same, put-other}
 use Rattle.atoms.specs.Contained.{contained}
 use Rattle.rows.specs.Rows.{Row, eachContained, covers}
-use Rattle.judge.specs.Look.{fromAt, toAt, productAt, rowAt, rowsAt, outcomeRow, coveredIn, Range, Sized}
+use Rattle.judge.specs.Look.{fromAt, toAt, productAt, rowAt, rowsAt, coveredIn, Range, Sized}
 
 pub from-is : (n : ℕ) (starts : List ℕ) (i c k r : ℕ) → k ≡ i * n + c → r ≡ getD starts k 0 → r ≡ fromAt n starts i c
 unfolding fromAt

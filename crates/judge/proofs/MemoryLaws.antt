@@ -1,15 +1,14 @@
 -- Memory that holds the rows of a good list: it is long enough, and its rows are these.
-use mathlib.Core.Path.{_≡_, refl, sym, ap, _∙_}
-use mathlib.Core.Bool.{Bool, true, false}
+use mathlib.Core.Path.{_≡_, refl, sym, ap}
+use mathlib.Core.Bool.{true, false}
 use mathlib.Core.Logic.{_⊎_, inl, inr}
 use mathlib.Core.List.{List, [], _∷_}
-use Prim.Native.Nat.{ℕ, zero, suc, _+_, _*_, _<_, _≤_}
+use Prim.Native.Nat.{ℕ, suc, _+_, _<_, _≤_}
 use native.Mathlib.Omega.{arith}
 use lib.Dec.{ltb}
 use lib.ListN.{length}
 use borrow.Author.Tests.{ltb-true, ltb-false}
 use Rattle.common.specs.Each.{Each}
-use Rattle.common.specs.Part.{part}
 use Rattle.common.proofs.AtLaws.{At, at-some}
 use Rattle.common.proofs.BoolLaws.{either}
 use Rattle.common.proofs.ChoiceLaws.{lt-then, lt-else}

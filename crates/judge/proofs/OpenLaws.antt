@@ -1,6 +1,6 @@
 -- The look over rows and moves for an outcome that is open: step by step, and that it is the judge's.
 use mathlib.Core.Path.{_≡_, refl, sym, ap, subst, _∙_}
-use mathlib.Core.Bool.{Bool, true, false, cond, not}
+use mathlib.Core.Bool.{Bool, true, false, not}
 use mathlib.Core.List.{List}
 use mathlib.Core.Option.{Option, none, some}
 use Prim.Native.Nat.{ℕ, zero, suc, _+_, _-_, _<_, _≤_}
@@ -8,7 +8,7 @@ use native.Mathlib.Omega.{arith}
 use Rattle.common.specs.Choice.{ifTrue}
 use Rattle.common.specs.First.{firstOf, firstWith}
 use Rattle.common.proofs.ChoiceLaws.{true-then, true-else}
-use Rattle.meaning.specs.Systems.{Move, System}
+use Rattle.meaning.specs.Systems.{System}
 use Rattle.rows.specs.Rows.{Row}
 use Rattle.rows.specs.Outcomes.{outcome}
 use Rattle.table.specs.Listing.{listed}

@@ -1,6 +1,6 @@
 -- A product copied to the front of a buffer, and what an operation makes of it there.
 use mathlib.Core.Path.{_≡_, refl, sym, ap, subst, _∙_}
-use mathlib.Core.Bool.{Bool, true, false}
+use mathlib.Core.Bool.{Bool}
 use mathlib.Core.List.{List, [], _∷_, _++_}
 use mathlib.Core.Option.{Option, none, some, Option·map}
 use Prim.Native.Nat.{ℕ, _+_, _-_, _<_, _≤_}
@@ -13,7 +13,6 @@ use Rattle.common.proofs.FrontLaws.{front-part}
 use Rattle.common.proofs.PartLaws.{part-length, part-none, part-set}
 use Rattle.meaning.specs.Systems.{Ranged, put}
 use Rattle.meaning.proofs.PutLaws.{put-id}
-use Rattle.atoms.specs.Masks.{singleOf, starOf}
 use Rattle.atoms.specs.Receive.{received}
 use Rattle.atoms.specs.Ranges.{leftOf, Within}
 use Rattle.atoms.specs.declared.products.Left.{Left}
@@ -23,16 +22,8 @@ use Rattle.table.specs.Transitions.{operationOf}
 use Rattle.table.specs.declared.transitions.Operation.{Operation}
 use Rattle.table.specs.declared.transitions.Operation.the-variants.{Quiet, Send, Receive}
 use Rattle.judge.specs.Look.{fromAt, toAt, productAt, Range}
-use Rattle.judge.specs.Outcomes.{Sent, changedIn}
+use Rattle.judge.specs.Outcomes.{Sent}
 use Rattle.judge.proofs.LookLaws.{product-there}
-
--- ---- the atom that a send adds
-
-pub atom-star : (loop : Bool) (m : ℕ) {r : ℕ} → loop ≡ true → r ≡ starOf m → r ≡ sentAtom loop m
-atom-star loop m e h = rw e h
-
-pub atom-single : (loop : Bool) (m : ℕ) {r : ℕ} → loop ≡ false → r ≡ singleOf m → r ≡ sentAtom loop m
-atom-single loop m e h = rw e h
 
 -- ---- l is the buffer b with the words of w from f up to t in front
 

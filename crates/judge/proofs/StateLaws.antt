@@ -12,7 +12,7 @@ use Rattle.common.specs.First.{anyOf, firstOf, isIn}
 use Rattle.common.proofs.ChoiceLaws.{true-then, true-else, eq-then, eq-else}
 use Rattle.table.specs.Systems.{badState, badsOf}
 use Rattle.table.specs.declared.checks.Shape.{Shape}
-use Rattle.judgement.specs.Judge.{hasStart, lowestBad}
+use Rattle.judgement.specs.Judge.{hasStart}
 use Rattle.judge.specs.Look.{rowsAt}
 use Rattle.judge.specs.States.{anyState, firstBad}
 

@@ -6,33 +6,21 @@ ghost use lib.ListN.{length};
 ghost use Rattle.atoms.specs.Receive.{received};
 ghost use Rattle.meaning.specs.Systems.{Ranged, put};
 ghost use Rattle.table.specs.Transitions.{operationOf};
-ghost use Rattle.rows.specs.Outcomes.{sentAtom, after};
+ghost use Rattle.rows.specs.Outcomes.{after};
 ghost use Rattle.judge.specs.Look.{productAt, Sized};
 ghost use Rattle.judge.specs.Outcomes.{Sent, changedIn, FewChanged};
 use crate::look::product_from;
 use crate::look::product_to;
 use atoms::copies::copy_front;
-use atoms::masks::single_of;
-use atoms::masks::star_of;
 use atoms::products::Left;
 use atoms::products::receive_at;
+use rows::sent_atom;
 use table::Operation;
 
 // What a move makes of a row: it is impossible, or one channel has a new product of so many atoms. A quiet move changes none: channel 4, no atoms.
 pub enum Changed {
     Impossible,
     To { channel: usize, count: usize },
-}
-
-// The atom that a send adds: of a self-loop send the star of its message, of another the single.
-fn sent_atom(loops: bool, message: usize) -> u16
-    requires { ⌜ message < 15 ⌝ }
-    ensures { λ r. ⌜ r ≡ sentAtom loops message ⌝ }
-{
-    if loops {
-        return star_of(message);
-    }
-    single_of(message)
 }
 
 // The product of a channel of row i with an atom added, in the buffer's first words; answers how many atoms it has.

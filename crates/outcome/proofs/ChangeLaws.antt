@@ -1,6 +1,6 @@
 -- The outcome of an operation from a row, channel by channel.
 use mathlib.Core.Path.{_≡_, refl, sym, ap, subst, _∙_}
-use mathlib.Core.Bool.{Bool, true, false}
+use mathlib.Core.Bool.{Bool}
 use mathlib.Core.List.{List}
 use mathlib.Core.Option.{Option, none, some, Option·map}
 use Prim.Native.Nat.{ℕ, _+_, _*_, _<_, _≤_}
@@ -11,7 +11,6 @@ use Rattle.common.proofs.ChoiceLaws.{lt-else}
 use Rattle.common.proofs.PartLaws.{part-none}
 use Rattle.meaning.specs.Systems.{Ranged, put}
 use Rattle.meaning.proofs.PutLaws.{put-id}
-use Rattle.atoms.specs.Masks.{singleOf, starOf}
 use Rattle.atoms.specs.Normal.{normal}
 use Rattle.atoms.specs.Receive.{received}
 use Rattle.rows.specs.Outcomes.{sentAtom, normalAfter}
@@ -24,14 +23,6 @@ use Rattle.outcome.specs.Outcomes.{Sent, changedTo, FewLeft}
 use Rattle.outcome.specs.declared.outcomes.Change.{Change}
 use Rattle.outcome.specs.declared.outcomes.Change.the-variants as change
 use Rattle.outcome.proofs.LookLaws.{product-there}
-
--- ---- the atom that a send adds
-
-pub atom-star : (loop : Bool) (m : ℕ) {r : ℕ} → loop ≡ true → r ≡ starOf m → r ≡ sentAtom loop m
-atom-star loop m e h = rw e h
-
-pub atom-single : (loop : Bool) (m : ℕ) {r : ℕ} → loop ≡ false → r ≡ singleOf m → r ≡ sentAtom loop m
-atom-single loop m e h = rw e h
 
 -- ---- a channel of row i, as the words tell
 

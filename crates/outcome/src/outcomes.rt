@@ -12,11 +12,10 @@ ghost use Rattle.outcome.specs.Outcomes.{Sent, changedTo, FewLeft};
 ghost use Rattle.outcome.specs.Look.{productAt, Sized};
 ghost use Rattle.outcome.specs.Changes.{changedIn, FewChanged};
 use atoms::copies::copy_front;
-use atoms::masks::single_of;
-use atoms::masks::star_of;
 use atoms::products::Left;
 use atoms::products::add_atom;
 use atoms::products::receive_at;
+use rows::sent_atom;
 use table::Operation;
 use work::reading::count_of;
 
@@ -50,17 +49,6 @@ pub fn received_into(w: &[u16], from: usize, to: usize, m: usize, buffer: &mut [
             Change::To(to - i)
         }
     }
-}
-
-// The atom that a send adds: of a self-loop send the star of its message, of another the single. Inner.
-pub fn sent_atom(loops: bool, message: usize) -> u16
-    requires { ⌜ message < 15 ⌝ }
-    ensures { λ r. ⌜ r ≡ sentAtom loops message ⌝ }
-{
-    if loops {
-        return star_of(message);
-    }
-    single_of(message)
 }
 
 // The product of a channel of row i after a send on it, in the buffer's first words; answers how many atoms it has. Inner.

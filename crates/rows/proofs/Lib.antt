@@ -3,3 +3,4 @@ pub mod CoverLaws
 pub mod OutcomeLaws
 pub mod RowOfLaws
 pub mod NormalLaws
+pub mod SentLaws

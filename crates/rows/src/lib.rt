@@ -1,1 +1,5 @@
-// Rows as a state and lists of masks, the outcome of a move from a row, and one row in another. Definitions and laws; there is no code.
+// Rows as a state and lists of masks, the outcome of a move from a row, and one row in another: definitions and laws, and the one function that every
+// outcome needs.
+pub mod sends;
+
+pub use crate::sends::sent_atom;

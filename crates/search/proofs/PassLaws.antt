@@ -2,12 +2,16 @@
 use mathlib.Core.Path.{_≡_, refl, sym, ap, subst, _∙_}
 use mathlib.Core.List.{List}
 use mathlib.Core.Option.{Option, none, some}
-use Prim.Native.Nat.{ℕ, zero, suc, _+_, _-_, _<_, _≤_}
+use Prim.Native.Nat.{ℕ, zero, suc, _+_, _-_, _*_, _<_, _≤_}
 use native.Mathlib.Omega.{arith}
-use lib.ListN.{length, getElem?}
+use lib.ListN.{length, getD, getElem?}
 use Rattle.common.proofs.AtLaws.{past-at}
 use Rattle.meaning.specs.Systems.{System}
 use Rattle.rows.specs.Rows.{Row}
+use Rattle.table.specs.Systems.{GoodTable, systemOf}
+use Rattle.table.specs.Transitions.{transitionAt}
+use Rattle.table.specs.declared.checks.Shape.{Shape}
+use Rattle.table.proofs.SystemLaws.{moves-length}
 use Rattle.explore.specs.Search.{Entry, safe, Visit, on, stop, tests, Pass, through, ended, pass, Found, walk}
 use Rattle.findings.specs.Search.{frameOf, outcomeAt}
 use Rattle.outcome.specs.Look.{rowAt}
@@ -19,6 +23,7 @@ use Rattle.search.specs.declared.visits.Visited.the-variants.{On, Ends}
 use Rattle.search.specs.declared.passes.Passed.{Passed}
 use Rattle.search.specs.declared.passes.Passed.the-variants as passed
 use Rattle.search.specs.declared.passes.Walked.the-variants as walked
+use Rattle.search.proofs.VisitLaws.{visit-elsewhere}
 use Rattle.search.proofs.StandingLaws.{entries-count, entry-there, grown-none, grown-there, grown-row, grown-then}
 
 module _ (S : System) (room : ℕ) (w : List ℕ) (rows : ℕ) where
@@ -122,3 +127,13 @@ module _ (S : System) (room : ℕ) (w : List ℕ) (rows : ℕ) where
 
     pub walking-ends : n ≤ i → Walks S room w rows (walked.Safe n) v
     walking-ends h = whole (k .same ∙ last h (room - i)) (k .grown)
+
+-- ---- a transition that comes from another state than that of row i is passed by: nothing would come of its visit
+
+module _ (t : List ℕ) (s : Shape) (g : GoodTable t s) (room : ℕ) (w : List ℕ) (rows i : ℕ) (v : List ℕ) (n j : ℕ) (k : Passing (systemOf t) room w rows i v n j) (h : i < rows)
+    (m : j < s .transitions) where
+  pub passing-by : (state source : ℕ) → state ≡ getD w (103 * i) 0 → source ≡ transitionAt t j .source → (source ≡ state → ⊥) → Passing (systemOf t) room w rows i v n (j + 1)
+  passing-by state source a b c =
+      passing-on (systemOf t) room w rows i v n j k h (On n) n v refl (omega (arith, moves-length t s g))
+      (visit-elsewhere t s g room v n (k .grown .standing) i j (grown-there (systemOf t) room w v rows n (k .grown) i h) m (transitionAt t j) refl
+      (λ e. c (b ∙ sym e ∙ ap (λ (r : Row). r .state) (grown-row (systemOf t) room w v rows n (k .grown) i h) ∙ sym a)))

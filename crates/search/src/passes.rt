@@ -8,6 +8,8 @@ use crate::visits::Stop;
 use crate::visits::Visited;
 use crate::visits::visit_move;
 use table::Shape;
+use table::source_at;
+use work::reading::state_of;
 
 // The pass over a row's transitions: all of them, with so many rows at the end; or it ends at one, with so many rows.
 pub enum Passed {
@@ -19,7 +21,7 @@ pub enum Passed {
     },
 }
 
-// Visits the transitions of row i in file order. Inner.
+// Visits the transitions of row i in file order. Most come from other states: they are passed by with a look at their source. Inner.
 fn pass_row(
     t: &[u8],
     s: Shape,
@@ -34,22 +36,27 @@ fn pass_row(
     requires { ⌜ (i < rows) × (103 * room ≤ length (now w)) × (room ≤ 1024) × (25 ≤ length (now buffer)) ⌝ }
     ensures { λ r. ⌜ Passes (systemOf (now (t .entry))) room (now (w .entry)) rows i r (now (w .exit)) ⌝ }
 {
+    let state = state_of(w, i);
     let mut made = rows;
     let mut j: usize = 0;
-    while j < s.transitions {
-        match visit_move(t, s, w, made, room, i, j, buffer) {
-            Visited::On(n) => {
-                made = n;
-                j += 1;
-            }
-            Visited::Ends(why) => {
-                return Passed::Ended {
-                    why,
-                    rows: made,
-                    transition: j,
-                };
+    'moves: while j < s.transitions {
+        if source_at(t, j) == state {
+            match visit_move(t, s, w, made, room, i, j, buffer) {
+                Visited::On(n) => {
+                    made = n;
+                    j += 1;
+                    continue 'moves;
+                }
+                Visited::Ends(why) => {
+                    return Passed::Ended {
+                        why,
+                        rows: made,
+                        transition: j,
+                    };
+                }
             }
         }
+        j += 1;
     }
     Passed::Through(made)
 }

@@ -31,6 +31,10 @@ pub transition-is : (t : List ℕ) (i : ℕ) {p : List ℕ} {e : Entry} {o : Ope
 unfolding transitionAt
 transition-is t i operation numbers payload = rw (operation, numbers, payload)
 
+pub source-is : (t : List ℕ) (i : ℕ) {p : List ℕ} {n : ℕ} → n ≡ numberAt p 0 → p ≡ partOf t (transitionPlace i) 8 → n ≡ transitionAt t i .source
+unfolding transitionAt entryOf
+source-is t i number payload = rw (number, payload)
+
 pub bad-is : (t : List ℕ) (s : Shape) (i : ℕ) {p : List ℕ} {n : ℕ} → n ≡ numberAt p 0 → p ≡ partOf t (badPlace (s .transitions) i) 2 → n ≡ badAt t s i
 unfolding badAt
 bad-is t s i number payload = rw (number, payload)

@@ -16,4 +16,5 @@ pub use crate::faults::number_of;
 pub use crate::faults::place_of;
 pub use crate::transitions::Operation;
 pub use crate::transitions::Transition;
+pub use crate::transitions::source_at;
 pub use crate::transitions::transition_at;

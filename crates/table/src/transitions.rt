@@ -5,6 +5,7 @@ ghost use lib.ListN.{length};
 ghost use Rattle.table.specs.Transitions.{operationFrom, transitionAt};
 use crate::fields::Entry;
 use crate::fields::entry_of;
+use reader::numbers::number_at;
 use reader::records::part_of;
 
 // What a transition does: nothing to the channels, a send on a channel of a message, or a receive.
@@ -53,4 +54,12 @@ pub fn transition_at(t: &[u8], i: usize) -> Transition
         operation,
         label: e.label,
     }
+}
+
+// Where transition i comes from. Inner, as transition_at is.
+pub fn source_at(t: &[u8], i: usize) -> usize
+    requires { ⌜ 10 + 12 * i + 12 ≤ length (now t) ⌝ }
+    ensures { λ r. ⌜ r ≡ transitionAt (now (t .entry)) i .source ⌝ }
+{
+    number_at(part_of(t, 10 + 12 * i, 8), 0)
 }

@@ -1,7 +1,5 @@
-use mathlib.Core.Path.{_≡_}
 use native.Mathlib.Omega.{arith}
 use Rattle.judge.proofs.LookLaws.{range-asks, range-there, changed-channel, other-channel}
-use borrow.Author.Needs.{needs}
 use Rattle.judge.proofs.look.channel_contained.Statement.{statement}
 use Rattle.judge.proofs.look.channel_contained.Tie as tie
 

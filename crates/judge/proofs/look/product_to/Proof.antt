@@ -1,5 +1,4 @@
 use mathlib.Core.Path.{refl}
-use native.Mathlib.Omega.{arith}
 use Rattle.judge.proofs.LookLaws.{to-is}
 use borrow.Author.Needs.{needs}
 use Rattle.judge.proofs.look.product_to.Statement.{statement}
