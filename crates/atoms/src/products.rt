@@ -32,7 +32,7 @@ pub fn contained_at(p: &[u16], pa: usize, pe: usize, q: &[u16], qa: usize, qe: u
 }
 
 // What is left of a product after a receive: the atoms from a place on, or the receive is impossible.
-#[derive(Drop)]
+#[derive(Clone, Copy)]
 pub enum Left {
     From(usize),
     Impossible,

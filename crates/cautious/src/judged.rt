@@ -10,7 +10,7 @@ use writer::{Written, write_list};
 
 // The answer: safe, with so many rows, and the judge accepted the list in so many first bytes of the list buffer; the search said safe, but its list was not
 // written, or not accepted; or another answer of the search.
-#[derive(Drop)]
+#[derive(Clone, Copy)]
 pub enum Judged {
     Accepted { rows: usize, bytes: usize },
     Unwritten(Written),

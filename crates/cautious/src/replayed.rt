@@ -8,7 +8,7 @@ use search::searches::search;
 
 // The answer: unsafe, with so many rows, and the replay of so many first words of the run buffer reached bad in as many steps; the search said unsafe, but the
 // replay did not reach bad; or another answer of the search.
-#[derive(Drop)]
+#[derive(Clone, Copy)]
 pub enum Replayed {
     Reached { rows: usize, steps: usize },
     Denied(replay::Answer),

@@ -3,7 +3,7 @@ ghost use Rattle.std.specs.Prelude.{◌≡◌, ◌≤◌, length, take};
 ghost use Rattle.input.specs.Reading.{Between};
 
 // What reading comes to: the first bytes of the buffer, up to a place, are the input's; or a read failed.
-#[derive(Drop)]
+#[derive(Clone, Copy)]
 pub enum Input {
     UpTo(usize),
     Failed,

@@ -12,7 +12,7 @@ use table::{Checked, Fault, Shape, check_table};
 
 // The answer to a table and a list: the table's refusal, the list's, or the first that holds: no row has the start; the lowest row in a bad state; the
 // lowest row, and its lowest transition, whose outcome is neither impossible nor inside one row; accepted.
-#[derive(Drop)]
+#[derive(Clone, Copy)]
 pub enum Answer {
     TableRefused { fault: Fault, at: usize },
     ListRefused { fault: Fault, at: usize },

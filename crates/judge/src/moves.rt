@@ -92,7 +92,7 @@ fn open_move(
 }
 
 // Whether the list is closed: else the lowest row with such a transition, and its lowest.
-#[derive(Drop)]
+#[derive(Clone, Copy)]
 pub enum Closed {
     Yes,
     Open { row: usize, transition: usize },

@@ -15,7 +15,7 @@ use rows::sent_atom;
 use table::Operation;
 
 // What a move makes of a row: it is impossible, or one channel has a new product of so many atoms. A quiet move changes none: channel 4, no atoms.
-#[derive(Drop)]
+#[derive(Clone, Copy)]
 pub enum Changed {
     Impossible,
     To { channel: usize, count: usize },

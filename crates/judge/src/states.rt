@@ -21,7 +21,7 @@ pub fn has_start(states: &[usize], rows: usize, start: usize) -> bool
 }
 
 // The lowest row that a look finds, or none.
-#[derive(Drop)]
+#[derive(Clone, Copy)]
 pub enum Lowest {
     Nowhere,
     At(usize),

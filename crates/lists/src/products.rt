@@ -11,7 +11,7 @@ use table::Fault;
 use table::faults::Tested;
 
 // A record: where it starts, where its payload ends, and how many messages the table has.
-#[derive(Drop)]
+#[derive(Clone, Copy)]
 pub struct Frame {
     pub at: usize,
     pub end: usize,
@@ -19,7 +19,7 @@ pub struct Frame {
 }
 
 // What a place for an atom holds: an atom of the table, or a fault.
-#[derive(Drop)]
+#[derive(Clone, Copy)]
 pub enum AtomStep {
     Atom(u16),
     Fails(Fault),
@@ -27,7 +27,7 @@ pub enum AtomStep {
 
 // What a place for a product, for all products or for a row holds: it was read, and here are the place behind it and the number of all
 // atoms so far; or a fault.
-#[derive(Drop)]
+#[derive(Clone, Copy)]
 pub enum Step {
     Next { at: usize, atoms: usize },
     Fails(Fault),

@@ -8,7 +8,7 @@ use crate::records::{Filled, read_row};
 use table::{Fault, Shape};
 
 // The answer to a list: how many rows it has, or the first fault and the start of the record that has it.
-#[derive(Drop)]
+#[derive(Clone, Copy)]
 pub enum ListChecked {
     Good(usize),
     Refused { fault: Fault, at: usize },

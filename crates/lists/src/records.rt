@@ -9,7 +9,7 @@ use reader::numbers::number_at;
 use table::{Fault, Shape};
 
 // How much of the memory is filled: so many rows, products of rows, and atoms of products.
-#[derive(Drop)]
+#[derive(Clone, Copy)]
 pub struct Filled {
     pub rows: usize,
     pub products: usize,
@@ -17,7 +17,7 @@ pub struct Filled {
 }
 
 // The frame of a record: the end of its payload, or a fault.
-#[derive(Drop)]
+#[derive(Clone, Copy)]
 pub enum Framed {
     End(usize),
     Fails(Fault),

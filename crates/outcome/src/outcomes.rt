@@ -28,7 +28,7 @@ pub fn sent_into(w: &[u16], from: usize, to: usize, atom: u16, buffer: &mut [u16
 }
 
 // What an operation makes of a product: it is impossible, or so many atoms are left.
-#[derive(Drop)]
+#[derive(Clone, Copy)]
 pub enum Change {
     Impossible,
     To(usize),
@@ -89,7 +89,7 @@ fn receive_outcome(
 }
 
 // What a move makes of a row: it is impossible, or one channel has a new product of so many atoms. A quiet move changes none: channel 4, no atoms.
-#[derive(Drop)]
+#[derive(Clone, Copy)]
 pub enum Changed {
     Impossible,
     To { channel: usize, count: usize },

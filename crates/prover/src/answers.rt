@@ -12,7 +12,7 @@ use wording::lines::{fault_line, safe_line};
 use writer::{Written, write_list};
 
 // So many rows of a safe table, or another verdict.
-#[derive(Drop)]
+#[derive(Clone, Copy)]
 pub enum Rows {
     Safely(usize),
     Otherwise,
@@ -42,7 +42,7 @@ fn safe_rows(verdict: Answer) -> Rows
 }
 
 // What is to be written: a text of so many bytes; or a text and a list, each of so many bytes.
-#[derive(Drop)]
+#[derive(Clone, Copy)]
 pub enum Output {
     Text(usize),
     WithList { text: usize, bytes: usize },

@@ -48,7 +48,7 @@ pub fn payload_from(t: &[u8], at: usize) -> &[u8]
 }
 
 // What a walk over all records finds: how many there are, or the place of the one inside which the bytes end.
-#[derive(Drop)]
+#[derive(Clone, Copy)]
 pub enum Walk {
     Whole(usize),
     Cut(usize),

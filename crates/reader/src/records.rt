@@ -5,7 +5,7 @@ ghost use Rattle.reader.specs.Records.{record_at, part_of, payload_at};
 use crate::numbers::number_at;
 
 // What stands at a place: bytes that end inside a record, or a whole record: its kind, its payload's length and the place of the next record.
-#[derive(Drop)]
+#[derive(Clone, Copy)]
 pub enum Record {
     Cut,
     Whole {

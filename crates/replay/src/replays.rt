@@ -10,7 +10,7 @@ use table::{Checked, Fault, Shape, check_table, is_bad};
 
 // The answer to a table and a run: the table's refusal, that of a run over 2,048 words, the step that is stuck,
 // the state in which the run ends elsewhere, or the number of steps in which it reaches bad.
-#[derive(Drop)]
+#[derive(Clone, Copy)]
 pub enum Answer {
     Refused { fault: Fault, at: usize },
     TooLong,

@@ -10,7 +10,7 @@ use crate::queues::operate;
 use table::{Shape, Transition, transition_at};
 
 // What a word does: it leads to a state, or it is stuck.
-#[derive(Drop)]
+#[derive(Clone, Copy)]
 pub enum Turn {
     To(usize),
     Stuck,

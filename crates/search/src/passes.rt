@@ -9,7 +9,7 @@ use table::{Shape, source_at};
 use work::reading::state_of;
 
 // The pass over a row's transitions: all of them, with so many rows at the end; or it ends at one, with so many rows.
-#[derive(Drop)]
+#[derive(Clone, Copy)]
 pub enum Passed {
     Through(usize),
     Ended {
@@ -60,7 +60,7 @@ fn pass_row(
 }
 
 // The walk over the rows: to the last one, with so many rows; or it ends at a row's transition.
-#[derive(Drop)]
+#[derive(Clone, Copy)]
 pub enum Walked {
     Safe(usize),
     Ended {

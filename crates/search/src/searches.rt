@@ -16,7 +16,7 @@ use work::writing::word;
 
 // The answer to a table and lent words: the table's refusal; a work table of that length is too short, or a run buffer; safe, with so many rows;
 // unsafe, with so many rows and steps; no room for the outcome of that row's transition, or no row holds it, with so many rows.
-#[derive(Drop)]
+#[derive(Clone, Copy)]
 pub enum Answer {
     Refused {
         fault: Fault,

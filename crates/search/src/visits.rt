@@ -16,7 +16,7 @@ use work::reading::state_of;
 use work::writing::word;
 
 // Why the search ends before its last row.
-#[derive(Drop)]
+#[derive(Clone, Copy)]
 pub enum Stop {
     Unsafe,
     AtomsFull,
@@ -24,7 +24,7 @@ pub enum Stop {
 }
 
 // The answer of a visit: go on with so many rows, or end.
-#[derive(Drop)]
+#[derive(Clone, Copy)]
 pub enum Visited {
     On(usize),
     Ends(Stop),

@@ -66,7 +66,7 @@ fn first_line(text: &[u8]) -> Found
 }
 
 // A run of so many words, which stand in the first places of a buffer; or the first line that is not one of a run's, counted from 1.
-#[derive(Drop)]
+#[derive(Clone, Copy)]
 pub enum Run {
     Words(usize),
     NotAt(usize),

@@ -4,7 +4,7 @@ ghost use Rattle.steps.specs.Texts.{behind, digits_in, number_in, counted_in, Re
 ghost use Rattle.steps.specs.Texts.{digit_of as digitIn};
 
 // A number that was read, and the place behind it; or something else stands there.
-#[derive(Drop)]
+#[derive(Clone, Copy)]
 pub enum Found {
     Is { value: usize, next: usize },
     Nowhere,

@@ -11,7 +11,7 @@ use reader::reader::payload_from;
 
 // A good table: the header's numbers, how many transitions and how many bad states.
 // Transition i's record stands at 10 + 12 i, bad state i's at 10 + 12 transitions + 6 i.
-#[derive(Drop)]
+#[derive(Clone, Copy)]
 pub struct Shape {
     pub states: usize,
     pub channels: usize,
@@ -22,14 +22,14 @@ pub struct Shape {
 }
 
 // The answer to a table. A refusal has its fault and the start of the record that has it.
-#[derive(Drop)]
+#[derive(Clone, Copy)]
 pub enum Checked {
     Good(Shape),
     Refused { fault: Fault, at: usize },
 }
 
 // What a walk over the transitions, or over the bad states, finds: how many there are, or the first fault and its record's start.
-#[derive(Drop)]
+#[derive(Clone, Copy)]
 pub enum Scanned {
     Done(usize),
     Refused { fault: Fault, at: usize },

@@ -3,7 +3,7 @@ ghost use Rattle.std.specs.Prelude.{◌≡◌};
 ghost use Rattle.table.specs.Answers.{number_of, place_of, field_place};
 
 // A fault of a record. A wrong field is found as the offset of its first byte from the record's start.
-#[derive(Drop)]
+#[derive(Clone, Copy)]
 pub enum Fault {
     Cut,
     Kind,
@@ -14,7 +14,7 @@ pub enum Fault {
 }
 
 // What a test of a record finds.
-#[derive(Drop)]
+#[derive(Clone, Copy)]
 pub enum Tested {
     Passes,
     Fails(Fault),

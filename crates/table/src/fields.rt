@@ -7,7 +7,7 @@ use crate::faults::Fault;
 use reader::numbers::{byte_at, number_at};
 
 // A header's numbers.
-#[derive(Drop)]
+#[derive(Clone, Copy)]
 pub struct Header {
     pub states: usize,
     pub channels: usize,
@@ -16,7 +16,7 @@ pub struct Header {
 }
 
 // A transition's numbers.
-#[derive(Drop)]
+#[derive(Clone, Copy)]
 pub struct Entry {
     pub source: usize,
     pub target: usize,
@@ -27,14 +27,14 @@ pub struct Entry {
 }
 
 // What the header's place holds: a header in range, or a fault.
-#[derive(Drop)]
+#[derive(Clone, Copy)]
 pub enum Headed {
     Good(Header),
     Fails(Fault),
 }
 
 // What a place for a transition holds: a transition in range, the end of the transitions, or a fault.
-#[derive(Drop)]
+#[derive(Clone, Copy)]
 pub enum Step {
     Next,
     End,
@@ -42,7 +42,7 @@ pub enum Step {
 }
 
 // What a place for a bad state holds: a bad state in range, with the lowest that may follow it, or a fault.
-#[derive(Drop)]
+#[derive(Clone, Copy)]
 pub enum Rise {
     Next(usize),
     Fails(Fault),

@@ -7,14 +7,14 @@ use reader::numbers::number_at;
 use reader::records::part_of;
 
 // What a transition does: nothing to the channels, a send on a channel of a message, or a receive.
-#[derive(Drop)]
+#[derive(Clone, Copy)]
 pub enum Operation {
     Quiet,
     Send { channel: usize, message: usize },
     Receive { channel: usize, message: usize },
 }
 
-#[derive(Drop)]
+#[derive(Clone, Copy)]
 pub struct Transition {
     pub source: usize,
     pub target: usize,

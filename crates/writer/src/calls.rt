@@ -10,7 +10,7 @@ use work::reading::room_of;
 
 // The answer to a table, a work table and a count of rows: the table's refusal; the lowest row that cannot be written, or the room where the
 // count is over it; how many bytes the list needs where it does not fit; or how many bytes it has.
-#[derive(Drop)]
+#[derive(Clone, Copy)]
 pub enum Written {
     Refused { fault: Fault, at: usize },
     BadRow(usize),

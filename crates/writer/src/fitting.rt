@@ -63,7 +63,7 @@ fn row_passes(work: &[u16], i: usize, s: Shape) -> bool
 }
 
 // The lowest row that cannot be written, or none.
-#[derive(Drop)]
+#[derive(Clone, Copy)]
 pub enum Unfit {
     Row(usize),
     Nothing,
