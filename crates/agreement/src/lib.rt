@@ -1,1 +1,2 @@
 // What ties search, judge and replay together. Laws only; there is no code.
+#![tactic(auto)]

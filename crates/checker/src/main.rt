@@ -1,4 +1,6 @@
 // The checking program: it reads a table from standard input, searches with room for 256 rows, and writes what it found.
+#![tactic(auto)]
+
 mod answers;
 mod program;
 

@@ -1,6 +1,8 @@
 // What the programs read and write: files by name and standard input, read to their end into a lent buffer, and texts and files written whole.
 // What cannot be done is said in one line on standard error. All functions here are inner. No contract can say which bytes are read or
 // written: the C library's calls promise nothing of it.
+#![tactic(auto)]
+
 pub mod names;
 pub mod reading;
 pub mod writing;

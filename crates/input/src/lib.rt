@@ -1,4 +1,6 @@
 // Input read to its end. All functions here are inner.
+#![tactic(auto)]
+
 pub mod reading;
 
 pub use crate::reading::{Input, read_input};

@@ -1,6 +1,8 @@
 // The judge: a proof list is read once, and its rows are judged where they stand in local memory. It stands on the table, the list and what
 // the judge's answer means, and on nothing that searches. `judge` is public: any bytes are taken. All other functions are inner: they ask what
 // their callers prove.
+#![tactic(auto)]
+
 pub mod judging;
 pub mod look;
 pub mod moves;

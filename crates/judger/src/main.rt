@@ -1,5 +1,7 @@
 // The judging program: it reads a table and a proof list from the files that its arguments name, and writes the judge's answer. It stands
 // on nothing that searches.
+#![tactic(auto)]
+
 mod answers;
 mod program;
 

@@ -1,5 +1,7 @@
 // The proving program: it searches the table in the file that its first argument names, with room for 1,024 rows, and writes what it found; of
 // a safe table it writes the proof list to the file that its second argument names.
+#![tactic(auto)]
+
 mod answers;
 mod program;
 

@@ -1,5 +1,7 @@
 // The replaying program: it reads a run, in the lines of the checker, from standard input, plays it on the table in the file that its argument
 // names, and writes what it came to.
+#![tactic(auto)]
+
 mod answers;
 mod program;
 

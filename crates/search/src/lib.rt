@@ -1,4 +1,6 @@
 // The search of a table. Public is `searches::search`; all other functions here are inner: their callers have proved what they ask for.
+#![tactic(auto)]
+
 pub mod passes;
 pub mod runs;
 pub mod searches;

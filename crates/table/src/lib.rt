@@ -1,5 +1,7 @@
 // The table check, and what a good table holds. Any bytes are taken; each gets its one answer: a good table's shape, or the first refusal.
 // A file for each subject; definitions that the contracts cite in specs/, their laws in proofs/.
+#![tactic(auto)]
+
 pub mod bads;
 pub mod checks;
 pub mod faults;

@@ -1,5 +1,7 @@
 // The list writer: turns the first rows of a work table into a proof list. `write_list` is public: any bytes, words and count are taken. All
 // other functions are inner: they ask what their callers prove.
+#![tactic(auto)]
+
 pub mod calls;
 pub mod fitting;
 pub mod placing;
