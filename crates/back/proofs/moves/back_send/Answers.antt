@@ -1,0 +1,8 @@
+use Rattle.back.proofs.MoveLaws.{send-kept, send-lost}
+use Rattle.back.proofs.moves.back_send.Goals as goal
+
+pub returns-then-drop_last : goal.returns-then-drop_last
+returns-then-drop_last c = send-kept _ _ _ _ _ _ _ c.drop_last.ensures _ _ _ _ _ c.push_word.ensures c.if-drop_last.true c.word.ensures
+
+pub returns : goal.returns
+returns c = send-lost _ _ _ _ _ _ _ c.drop_last.ensures _ _ _ _ _ c.push_word-2.ensures c.if-drop_last.false c.word-2.ensures

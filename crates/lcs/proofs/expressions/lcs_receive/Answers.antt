@@ -1,0 +1,16 @@
+use mathlib.Core.Path.{sym, ◌∙◌}
+use native.Mathlib.Omega.{arith}
+use Rattle.lcs.proofs.ExpressionLaws.{product_is, receive-answers, receive-over, receive-refused}
+use Rattle.lcs.proofs.expressions.lcs_receive.Goals as goal
+
+pub returns-then-message-gt14 : goal.returns-then-message-gt14
+returns-then-message-gt14 c = record { value = (receive-over _ _ (sym c.is_product.ensures ∙ c.if-is_product.true) (omega arith)).0; p_after = (receive-over _ _ (sym c.is_product.ensures ∙ c.if-is_product.true) (omega arith)).1 }
+
+pub receive_front-requires : goal.receive_front-requires
+receive_front-requires c = ((product_is _ (sym c.is_product.ensures ∙ c.if-is_product.true)).0, omega arith)
+
+pub returns-then-is_product : goal.returns-then-is_product
+returns-then-is_product c = let r = c.receive_front in record { value = (receive-answers _ _ (sym c.is_product.ensures ∙ c.if-is_product.true) r.ensures.0 r.ensures.1).0; p_after = (receive-answers _ _ (sym c.is_product.ensures ∙ c.if-is_product.true) r.ensures.0 r.ensures.1).1 }
+
+pub returns : goal.returns
+returns c = record { value = (receive-refused _ _ (sym c.is_product.ensures ∙ c.if-is_product.false)).0; p_after = (receive-refused _ _ (sym c.is_product.ensures ∙ c.if-is_product.false)).1 }

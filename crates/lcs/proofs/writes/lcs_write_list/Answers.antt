@@ -1,0 +1,48 @@
+use mathlib.Core.Path.{refl}
+use Rattle.lcs.proofs.WriteCallLaws.{write-says, write-refuses}
+use Rattle.lcs.proofs.writes.lcs_write_list.Goals as goal
+
+pub write_list-requires : goal.write_list-requires
+write_list-requires c = tt
+
+pub enum_known-bytes : goal.enum_known-bytes
+enum_known-bytes c = c.in-Bytes.keys1
+
+pub enum_known-fault : goal.enum_known-fault
+enum_known-fault c = c.in-Refused.keys2
+
+pub number_of-requires : goal.number_of-requires
+number_of-requires c = tt
+
+pub place_of-requires : goal.place_of-requires
+place_of-requires c = tt
+
+pub enum_known-row : goal.enum_known-row
+enum_known-row c = c.in-BadRow.keys3
+
+pub enum_known-needed : goal.enum_known-needed
+enum_known-needed c = c.in-TooSmall.keys4
+
+pub shape_of-list-in-Bytes : goal.shape_of-list-in-Bytes
+shape_of-list-in-Bytes c = c.write_list.auto.list
+
+pub returns-in-Bytes : goal.returns-in-Bytes
+returns-in-Bytes c = let w = c.write_list.ensures in record { value = (write-says _ _ _ _ _ _ w.value w.list_after _ _ _ c.in-Bytes.is refl refl).0; out_after = (write-says _ _ _ _ _ _ w.value w.list_after _ _ _ c.in-Bytes.is refl refl).1.0; list_after = (write-says _ _ _ _ _ _ w.value w.list_after _ _ _ c.in-Bytes.is refl refl).1.1 }
+
+pub shape_of-list-in-Refused : goal.shape_of-list-in-Refused
+shape_of-list-in-Refused c = c.write_list.auto.list
+
+pub returns-in-Refused : goal.returns-in-Refused
+returns-in-Refused c = let w = c.write_list.ensures in record { value = (write-refuses _ _ _ _ _ _ w.value w.list_after _ _ _ _ c.in-Refused.is c.number_of.ensures c.place_of.ensures).0; out_after = (write-refuses _ _ _ _ _ _ w.value w.list_after _ _ _ _ c.in-Refused.is c.number_of.ensures c.place_of.ensures).1.0; list_after = (write-refuses _ _ _ _ _ _ w.value w.list_after _ _ _ _ c.in-Refused.is c.number_of.ensures c.place_of.ensures).1.1 }
+
+pub shape_of-list-in-BadRow : goal.shape_of-list-in-BadRow
+shape_of-list-in-BadRow c = c.write_list.auto.list
+
+pub returns-in-BadRow : goal.returns-in-BadRow
+returns-in-BadRow c = let w = c.write_list.ensures in record { value = (write-says _ _ _ _ _ _ w.value w.list_after _ _ _ c.in-BadRow.is refl refl).0; out_after = (write-says _ _ _ _ _ _ w.value w.list_after _ _ _ c.in-BadRow.is refl refl).1.0; list_after = (write-says _ _ _ _ _ _ w.value w.list_after _ _ _ c.in-BadRow.is refl refl).1.1 }
+
+pub shape_of-list-in-TooSmall : goal.shape_of-list-in-TooSmall
+shape_of-list-in-TooSmall c = c.write_list.auto.list
+
+pub returns-in-TooSmall : goal.returns-in-TooSmall
+returns-in-TooSmall c = let w = c.write_list.ensures in record { value = (write-says _ _ _ _ _ _ w.value w.list_after _ _ _ c.in-TooSmall.is refl refl).0; out_after = (write-says _ _ _ _ _ _ w.value w.list_after _ _ _ c.in-TooSmall.is refl refl).1.0; list_after = (write-says _ _ _ _ _ _ w.value w.list_after _ _ _ c.in-TooSmall.is refl refl).1.1 }

@@ -1,0 +1,16 @@
+use native.Mathlib.Omega.{arith}
+use borrow.Author.Rules.{rules}
+use Rattle.wording.proofs.LineLaws.{one-length, one_written}
+use Rattle.wording.proofs.lines.one_line.Goals as goal
+
+slice-aggregate-write-bytes : tie.Need-slice-aggregate-write-bytes
+slice-aggregate-write-bytes c = search rules
+
+pub write_counted-end-requires : goal.write_counted-end-requires
+write_counted-end-requires c = let h = simp one-length at c.requires in omega arith
+
+pub write_bytes-requires : goal.write_bytes-requires
+write_bytes-requires c = let h = simp one-length at c.requires in omega (arith, c.write_counted-end.ensures.next)
+
+pub returns : goal.returns
+returns c = one_written _ _ _ _ _ _ _ _ c.write_counted-end.ensures c.write_bytes.ensures

@@ -1,0 +1,16 @@
+-- The invariant: the bytes of the records so far.
+use native.Mathlib.Omega.{arith}
+use Rattle.writer.proofs.SizeLaws.{list-sizing-starts, list-sizing-on, list-sizing-ends}
+use Rattle.writer.proofs.sizes.list_size.Goals as goal
+
+pub loop-i-init : goal.loop-i-init
+loop-i-init c = list-sizing-starts _ _ _
+
+pub payload_size-requires : goal.payload_size-requires
+payload_size-requires c = (omega arith, omega arith, c.requires.all_writable.each _ (omega arith))
+
+pub loop-i-preserved : goal.loop-i-preserved
+loop-i-preserved c = list-sizing-on c.loop-i.invariant (omega arith) _ c.payload_size.ensures.value c.payload_size.ensures.upper_bound
+
+pub returns : goal.returns
+returns c = list-sizing-ends c.loop-i.invariant (omega arith)
