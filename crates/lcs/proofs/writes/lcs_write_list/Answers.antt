@@ -2,27 +2,6 @@ use mathlib.Core.Path.{refl}
 use Rattle.lcs.proofs.WriteCallLaws.{write-says, write-refuses}
 use Rattle.lcs.proofs.writes.lcs_write_list.Goals as goal
 
-pub write_list-requires : goal.write_list-requires
-write_list-requires c = tt
-
-pub enum_known-bytes : goal.enum_known-bytes
-enum_known-bytes c = c.in-Bytes.keys1
-
-pub enum_known-fault : goal.enum_known-fault
-enum_known-fault c = c.in-Refused.keys2
-
-pub number_of-requires : goal.number_of-requires
-number_of-requires c = tt
-
-pub place_of-requires : goal.place_of-requires
-place_of-requires c = tt
-
-pub enum_known-row : goal.enum_known-row
-enum_known-row c = c.in-BadRow.keys3
-
-pub enum_known-needed : goal.enum_known-needed
-enum_known-needed c = c.in-TooSmall.keys4
-
 pub shape_of-list-in-Bytes : goal.shape_of-list-in-Bytes
 shape_of-list-in-Bytes c = c.write_list.auto.list
 

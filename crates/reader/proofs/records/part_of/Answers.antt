@@ -4,11 +4,5 @@ use mathlib.Core.Path.{refl}
 use Rattle.reader.proofs.RecordLaws.{part-is}
 use Rattle.reader.proofs.records.part_of.Goals as goal
 
-part-result-start : tie.Need-slice-bounds-result-start
-part-result-start c = search rules
-
-part-result-end : tie.Need-slice-bounds-result-end
-part-result-end c = search rules
-
 pub returns : goal.returns
 returns c = part-is _ _ _ _ _ refl refl

@@ -4,12 +4,6 @@ use Rattle.reader.proofs.RecordLaws.{whole-there, payload-whole, payload_cut}
 use mathlib.Core.Path.{sym, ◌∙◌}
 use Rattle.reader.proofs.records.payload_at.Goals as goal
 
-part-result-start : tie.Need-slice-bounds-result-start
-part-result-start c = search rules
-
-part-result-end : tie.Need-slice-bounds-result-end
-part-result-end c = search rules
-
 pub returns-in_default : goal.returns-in_default
 returns-in_default c = payload_cut _ _ (sym c.in_default.is ∙ c.record_at.ensures)
 

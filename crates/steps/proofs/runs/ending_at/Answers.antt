@@ -2,18 +2,6 @@ use Rattle.steps.proofs.RunLaws.{ending-kept, ending-lost, ending-receive, endin
 use borrow.Author.Rules.{rules}
 use Rattle.steps.proofs.runs.ending_at.Goals as goal
 
-slice-aggregate-word-at : tie.Need-slice-aggregate-word-at
-slice-aggregate-word-at c = search rules
-
-slice-aggregate-word-at-2 : tie.Need-slice-aggregate-word-at-2
-slice-aggregate-word-at-2 c = search rules
-
-slice-aggregate-word-at-3 : tie.Need-slice-aggregate-word-at-3
-slice-aggregate-word-at-3 c = search rules
-
-slice-aggregate-word-at-4 : tie.Need-slice-aggregate-word-at-4
-slice-aggregate-word-at-4 c = search rules
-
 pub returns-in-Is : goal.returns-in-Is
 returns-in-Is c = ending-kept _ _ _ _ c.word_at.ensures _ _ c.in-Is.is
 

@@ -4,15 +4,6 @@ use Rattle.steps.proofs.RunLaws.{first-nothing, first-halved, first-whole}
 use borrow.Author.Rules.{rules}
 use Rattle.steps.proofs.runs.first_line.Goals as goal
 
-slice-aggregate-counted-at : tie.Need-slice-aggregate-counted-at
-slice-aggregate-counted-at c = search rules
-
-slice-aggregate-counted-at-2 : tie.Need-slice-aggregate-counted-at-2
-slice-aggregate-counted-at-2 c = search rules
-
-slice-aggregate-word-at : tie.Need-slice-aggregate-word-at
-slice-aggregate-word-at c = search rules
-
 pub returns-in-Nowhere : goal.returns-in-Nowhere
 returns-in-Nowhere c = first-nothing _ _ c.counted_at.ensures c.in-Nowhere.is
 

@@ -3,9 +3,6 @@ use borrow.Author.Rules.{rules}
 use Rattle.wording.proofs.LineLaws.{one-length, one_written}
 use Rattle.wording.proofs.lines.one_line.Goals as goal
 
-slice-aggregate-write-bytes : tie.Need-slice-aggregate-write-bytes
-slice-aggregate-write-bytes c = search rules
-
 pub write_counted-end-requires : goal.write_counted-end-requires
 write_counted-end-requires c = let h = simp one-length at c.requires in omega arith
 

@@ -3,9 +3,6 @@ use borrow.Author.Rules.{rules}
 use Rattle.wording.proofs.LineLaws.{three-length, three-written}
 use Rattle.wording.proofs.lines.three_line.Goals as goal
 
-slice-aggregate-write-bytes : tie.Need-slice-aggregate-write-bytes
-slice-aggregate-write-bytes c = search rules
-
 pub write_counted-next-requires : goal.write_counted-next-requires
 write_counted-next-requires c = let h = simp three-length at c.requires in omega arith
 

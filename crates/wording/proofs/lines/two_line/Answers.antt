@@ -3,9 +3,6 @@ use borrow.Author.Rules.{rules}
 use Rattle.wording.proofs.LineLaws.{two-length, two-written}
 use Rattle.wording.proofs.lines.two_line.Goals as goal
 
-slice-aggregate-write-bytes : tie.Need-slice-aggregate-write-bytes
-slice-aggregate-write-bytes c = search rules
-
 pub write_counted-next-requires : goal.write_counted-next-requires
 write_counted-next-requires c = let h = simp two-length at c.requires in omega arith
 

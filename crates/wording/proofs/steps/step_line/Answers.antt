@@ -7,9 +7,6 @@ use Rattle.wording.proofs.StepLaws.{word_number, move-short, step-written}
 use borrow.Author.Rules.{rules}
 use Rattle.wording.proofs.steps.step_line.Goals as goal
 
-slice-aggregate-write-bytes : tie.Need-slice-aggregate-write-bytes
-slice-aggregate-write-bytes c = search rules
-
 pub write_number-next-requires : goal.write_number-next-requires
 write_number-next-requires c = let k = word_number c.args.word in omega arith
 

@@ -3,18 +3,6 @@ use Rattle.wording.proofs.StepLaws.{quiet_told, receive-told, lost-told, kept-to
 use borrow.Author.Rules.{rules}
 use Rattle.wording.proofs.steps.write_happened.Goals as goal
 
-slice-aggregate-write-bytes : tie.Need-slice-aggregate-write-bytes
-slice-aggregate-write-bytes c = search rules
-
-slice-aggregate-write-bytes-2 : tie.Need-slice-aggregate-write-bytes-2
-slice-aggregate-write-bytes-2 c = search rules
-
-slice-aggregate-write-bytes-3 : tie.Need-slice-aggregate-write-bytes-3
-slice-aggregate-write-bytes-3 c = search rules
-
-slice-aggregate-write-bytes-4 : tie.Need-slice-aggregate-write-bytes-4
-slice-aggregate-write-bytes-4 c = search rules
-
 pub returns-in-Quiet : goal.returns-in-Quiet
 returns-in-Quiet c = quiet_told _ c.in-Quiet.is c.write_bytes.ensures
 
