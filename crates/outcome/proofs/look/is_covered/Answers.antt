@@ -4,10 +4,6 @@ use Rattle.outcome.proofs.LookLaws.{looking-starts, looking-next, looking-stops,
 use borrow.Author.Rules.{rules}
 use Rattle.outcome.proofs.look.is_covered.Goals as goal
 
-channel-contained-requires :
-    tie.Need-channel-contained-requires invariant-channels decreases-channels invariant-rows decreases-rows
-channel-contained-requires c κs = search rules
-
 pub rows-init : goal.rows-init
 rows-init c = rows_start _ _ _ _
 
