@@ -34,8 +34,8 @@ module _ (S : System) where
   rows_of l = map (λ e. e.row) l
 
   module _ (wm : WellMade S) (k15 : S.messages ≤ 15) (room : ℕ) (l : List (Entry (frame_of S))) (rs : Rows (frame_of S) room (first_entry S) l) where
-    rows_of : (n : ℕ) (r : Row) → At (rows_of l) n r → RowOf S.channels S.messages r
-    rows_of n r h = let e = (at_map (λ (e : Entry (frame_of S)). e.row) l n r).0 h in subst (RowOf S.channels S.messages) e.2 (entry-row-of S wm k15 room l rs n e.0 e.1)
+    each_row : (n : ℕ) (r : Row) → At (rows_of l) n r → RowOf S.channels S.messages r
+    each_row n r h = let e = (at_map (λ (e : Entry (frame_of S)). e.row) l n r).0 h in subst (RowOf S.channels S.messages) e.2 (entry-row-of S wm k15 room l rs n e.0 e.1)
 
     -- A move that is settled in the search is kept by the rows.
     kept : (n : ℕ) (e : Entry (frame_of S)) → At l n e → (j : ℕ) (t : Move) → At S.moves j t → Settled (frame_of S) l e.row j → Kept (rows_of l) e.row t
@@ -75,7 +75,7 @@ module _ (S : System) where
 
     -- AGREEMENT: rows of which the search says safe, from a start that is not bad, are accepted.
     pub safe-accepted : is_in S.start S.bad ≡ false → Says (frame_of S) room l safe → judge S (rows_of l) ≡ accepted
-    safe-accepted fine done = (accepted-iff S (rows_of l) wm k15 rows_of).1 (start, no-bad, all-kept)
+    safe-accepted fine done = (accepted-iff S (rows_of l) wm k15 each_row).1 (start, no-bad, all-kept)
       where
         start : Held (rows_of l) (start_of S)
         start =
@@ -103,4 +103,4 @@ module _ (S : System) where
 
     -- So no run reaches a bad state.
     pub safe-safe : is_in S.start S.bad ≡ false → Says (frame_of S) room l safe → Safe S
-    safe-safe fine done = judge-sound S (rows_of l) wm k15 rows_of (safe-accepted fine done)
+    safe-safe fine done = judge-sound S (rows_of l) wm k15 each_row (safe-accepted fine done)

@@ -63,8 +63,8 @@ module _ (t : List ℕ) (s : Shape) (g : GoodTable t s) (list : List ℕ) where
   l = rows_of s list
 
   -- The list's rows are rows of the table.
-  rows_of : (n : ℕ) (r : Row) → At l n r → RowOf S.channels S.messages r
-  rows_of n r a = rw (channels-are t s g, messages-are t s g) (each_at (RowFits s) l n r (rows-fit-all s list) a).row_of
+  each_row : (n : ℕ) (r : Row) → At l n r → RowOf S.channels S.messages r
+  each_row n r a = rw (channels-are t s g, messages-are t s g) (each_at (RowFits s) l n r (rows-fit-all s list) a).row_of
 
   module _ (h : GoodList s list) (r : Answer) (p : Judges t list r) where
     told : r ≡ found (judge S l)
@@ -74,7 +74,7 @@ module _ (t : List ℕ) (s : Shape) (g : GoodTable t s) (list : List ℕ) where
     -- THE ANSWERS: of no start, bad row (the lowest), not closed (the lowest row, then its lowest transition) and accepted the call gives the first that
     -- holds, each said of configurations.
     pub answer-means : Means S l r
-    answer-means = subst (Means S l) (sym told) (found-means S l (judge S l) (judge-says S l (well-made t s g) (few-messages t s g) rows_of))
+    answer-means = subst (Means S l) (sym told) (found-means S l (judge S l) (judge-says S l (well-made t s g) (few-messages t s g) each_row))
 
     accepts : (r ≡ Accepted) ↔ (judge S l ≡ accepted)
     accepts = (λ e. found-accepted (judge S l) (sym e ∙ told), λ e. told ∙ ap found e)
@@ -83,18 +83,18 @@ module _ (t : List ℕ) (s : Shape) (g : GoodTable t s) (list : List ℕ) where
     -- set of configurations, empty or wholly in one row.
     pub accepted-exactly : (r ≡ Accepted) ↔ (Held l (start_of S) × NoBad S l × AllKept S l)
     accepted-exactly =
-        let q = accepted-iff S l (well-made t s g) (few-messages t s g) rows_of in
+        let q = accepted-iff S l (well-made t s g) (few-messages t s g) each_row in
         (λ e. q.0 (accepts.0 e), λ k. accepts.1 (q.1 k))
 
     -- THE INVARIANT: accepted exactly when the configurations of all rows have the start, have none in a bad state, and every step (send, receive, quiet,
     -- loss) from one of them stays among them.
     pub accepted-invariant : (r ≡ Accepted) ↔ Invariant S l
     accepted-invariant =
-        let q = invariant-iff S l (well-made t s g) (few-messages t s g) rows_of in
+        let q = invariant-iff S l (well-made t s g) (few-messages t s g) each_row in
         (λ e. q.0 (accepts.0 e), λ k. accepts.1 (q.1 k))
 
   accepted-no-run : GoodList s list → Judges t list Accepted → Safe S
-  accepted-no-run h p = judge-sound S l (well-made t s g) (few-messages t s g) rows_of ((accepts h Accepted p).0 refl)
+  accepted-no-run h p = judge-sound S l (well-made t s g) (few-messages t s g) each_row ((accepts h Accepted p).0 refl)
 
 -- SOUNDNESS: where the call answers accepted, table and list are good, and no finite run of the table's system from the start with empty channels, with any
 -- sends, receives and losses, reaches a bad state.
