@@ -6,8 +6,6 @@ use mathlib.Core.Option.{Option, none, some}
 use Prim.Native.Nat.{ℕ, ◌<◌, ◌≤◌}
 use native.Mathlib.Omega.{arith}
 use lib.ListN.{length, take}
-use denote.Enum.Declared.{tag_of}
-use types.Run.{OneOf, miss}
 use Rattle.common.specs.Front.{front}
 use Rattle.common.proofs.ChoiceLaws.{lt-cases}
 use Rattle.common.proofs.FrontLaws.{front-part}
@@ -36,26 +34,26 @@ use Rattle.cautious.specs.declared.judged.Judged.TheVariants.{Accepted, Unwritte
 
 -- ---- the arms of each match: the one answer that goes on, and all others
 
-pub denied : (n k : ℕ) (a : judge.Answer) → OneOf (0 ∷ 1 ∷ 2 ∷ 3 ∷ 4 ∷ []) (tag_of judge-enum.the_type a) → Denied a ≡ by_judge n k a
+pub denied : (n k : ℕ) (a : judge.Answer) → (a ≡ answer.Accepted → ⊥) → Denied a ≡ by_judge n k a
 denied n k (answer.TableRefused f at) h = refl
 denied n k (answer.ListRefused f at) h = refl
 denied n k answer.NoStart h = refl
 denied n k (answer.BadRow i) h = refl
 denied n k (answer.NotClosed i j) h = refl
-denied n k answer.Accepted h = absurd (miss (0 ∷ 1 ∷ 2 ∷ 3 ∷ 4 ∷ []) 5 tt h)
+denied n k answer.Accepted h = absurd (h refl)
 
-unwritten : (t : List ℕ) (n : ℕ) (bytes : List ℕ) (w : Written) → OneOf (0 ∷ 1 ∷ 2 ∷ []) (tag_of writer-enum.the_type w) → Unwritten w ≡ by_writer t n bytes w
+unwritten : (t : List ℕ) (n : ℕ) (bytes : List ℕ) (w : Written) → ((k : ℕ) → w ≡ wrote.Bytes k → ⊥) → Unwritten w ≡ by_writer t n bytes w
 unwritten t n bytes (wrote.Refused f at) h = refl
 unwritten t n bytes (wrote.BadRow i) h = refl
 unwritten t n bytes (wrote.TooSmall k) h = refl
-unwritten t n bytes (wrote.Bytes k) h = absurd (miss (0 ∷ 1 ∷ 2 ∷ []) 3 tt h)
+unwritten t n bytes (wrote.Bytes k) h = absurd (h k refl)
 
-not-safe : (t w list : List ℕ) (size : ℕ) (a : search.Answer) → OneOf (0 ∷ 1 ∷ 2 ∷ 4 ∷ 5 ∷ 6 ∷ []) (tag_of search-enum.the_type a)
+not-safe : (t w list : List ℕ) (size : ℕ) (a : search.Answer) → ((n : ℕ) → a ≡ searched.Safe n → ⊥)
     → (NotSafe a ≡ by_search t w size a) × (list ≡ list_left t w list a)
 not-safe t w list size (searched.Refused f at) h = (refl, refl)
 not-safe t w list size (searched.SmallWork n) h = (refl, refl)
 not-safe t w list size (searched.SmallRun n) h = (refl, refl)
-not-safe t w list size (searched.Safe n) h = absurd (miss (0 ∷ 1 ∷ 2 ∷ 4 ∷ 5 ∷ 6 ∷ []) 3 tt h)
+not-safe t w list size (searched.Safe n) h = absurd (h n refl)
 not-safe t w list size (searched.Unsafe n k) h = (refl, refl)
 not-safe t w list size (searched.RowsFull n i j) h = (refl, refl)
 not-safe t w list size (searched.AtomsFull n i j) h = (refl, refl)
@@ -95,7 +93,7 @@ module _ (t w : List ℕ) (n : ℕ) (list list' : List ℕ) (x : Written) (says 
   pub left_is : list' ≡ left_by (written t w n (length list)) (bytes_of t w n) list
   left_is = left ∙ ap (λ (y : Written). left_by y (bytes_of t w n) list) says
 
-  pub by-other : OneOf (0 ∷ 1 ∷ 2 ∷ []) (tag_of writer-enum.the_type x) → Unwritten x ≡ by_writer t n (bytes_of t w n) (written t w n (length list))
+  pub by-other : ((k : ℕ) → x ≡ wrote.Bytes k → ⊥) → Unwritten x ≡ by_writer t n (bytes_of t w n) (written t w n (length list))
   by-other h = unwritten t n (bytes_of t w n) x h ∙ ap (by_writer t n (bytes_of t w n)) says
 
   -- The bytes that are judged are those that were written.
@@ -116,7 +114,7 @@ module _ (t w : List ℕ) (n : ℕ) (list list' : List ℕ) (x : Written) (says 
 -- ---- the call
 
 module _ (t work run list : List ℕ) (a : search.Answer) (work' run' : List ℕ) (d : Searches t work run a work' run') where
-  pub judges-other : OneOf (0 ∷ 1 ∷ 2 ∷ 4 ∷ 5 ∷ 6 ∷ []) (tag_of search-enum.the_type a) → JudgesSearch t work run list (NotSafe a) work' run' list
+  pub judges-other : ((n : ℕ) → a ≡ searched.Safe n → ⊥) → JudgesSearch t work run list (NotSafe a) work' run' list
   judges-other h =
       let q = not-safe t (work_left t work run) list (length list) a h in
       record {

@@ -4,8 +4,6 @@ use mathlib.Core.List.{List, [], ◌∷◌}
 use Prim.Native.Nat.{ℕ, ◌≤◌}
 use native.Mathlib.Omega.{arith}
 use lib.ListN.{length, take, drop, length-append}
-use denote.Enum.Declared.{tag_of}
-use types.Run.{OneOf, miss}
 use Rattle.common.specs.Front.{front}
 use Rattle.common.specs.Part.{part}
 use Rattle.common.proofs.FrontLaws.{front-part}
@@ -26,19 +24,19 @@ use Rattle.cautious.specs.declared.replayed.Replayed.TheVariants.{Denied, NotUns
 
 -- ---- the arms of each match: the one answer that goes on, and all others
 
-pub run-denied : (n : ℕ) (a : replay.Answer) → OneOf (0 ∷ 1 ∷ 2 ∷ 3 ∷ []) (tag_of replay-enum.the_type a) → Denied a ≡ by_replay n a
+pub run-denied : (n : ℕ) (a : replay.Answer) → ((k : ℕ) → a ≡ answer.ReachesBad k → ⊥) → Denied a ≡ by_replay n a
 run-denied n (answer.Refused f at) h = refl
 run-denied n answer.TooLong h = refl
 run-denied n (answer.Stuck i) h = refl
 run-denied n (answer.EndsElsewhere q) h = refl
-run-denied n (answer.ReachesBad k) h = absurd (miss (0 ∷ 1 ∷ 2 ∷ 3 ∷ []) 4 tt h)
+run-denied n (answer.ReachesBad k) h = absurd (h k refl)
 
-not-unsafe : (t run : List ℕ) (a : search.Answer) → OneOf (0 ∷ 1 ∷ 2 ∷ 3 ∷ 5 ∷ 6 ∷ []) (tag_of search-enum.the_type a) → NotUnsafe a ≡ run_said t run a
+not-unsafe : (t run : List ℕ) (a : search.Answer) → ((n k : ℕ) → a ≡ searched.Unsafe n k → ⊥) → NotUnsafe a ≡ run_said t run a
 not-unsafe t run (searched.Refused f at) h = refl
 not-unsafe t run (searched.SmallWork n) h = refl
 not-unsafe t run (searched.SmallRun n) h = refl
 not-unsafe t run (searched.Safe n) h = refl
-not-unsafe t run (searched.Unsafe n k) h = absurd (miss (0 ∷ 1 ∷ 2 ∷ 3 ∷ 5 ∷ 6 ∷ []) 4 tt h)
+not-unsafe t run (searched.Unsafe n k) h = absurd (h n k refl)
 not-unsafe t run (searched.RowsFull n i j) h = refl
 not-unsafe t run (searched.AtomsFull n i j) h = refl
 
@@ -52,7 +50,7 @@ module _ (t work run : List ℕ) (a : search.Answer) (work' run' : List ℕ) (d 
   abbrev x : Result
   x = result_of t work run
 
-  pub replays-other : OneOf (0 ∷ 1 ∷ 2 ∷ 3 ∷ 5 ∷ 6 ∷ []) (tag_of search-enum.the_type a) → ReplaysSearch t work run (NotUnsafe a) work' run'
+  pub replays-other : ((n k : ℕ) → a ≡ searched.Unsafe n k → ⊥) → ReplaysSearch t work run (NotUnsafe a) work' run'
   replays-other h = record { answer = not-unsafe t x.run a h ∙ ap (run_said t x.run) d.answer; rows = d.rows; words = d.words }
 
   -- The run is as long as is said, and it is the words that are replayed.

@@ -12,4 +12,4 @@ pub returns-in-Accepted : goal.returns-in-Accepted
 returns-in-Accepted c = ap (by_judge _ _) (sym c.in-Accepted.is ∙ c.judge-answer.ensures.exact)
 
 pub returns-in_default : goal.returns-in_default
-returns-in_default c = denied _ _ _ c.in_default.keys2 ∙ ap (by_judge _ _) c.judge-answer.ensures.exact
+returns-in_default c = denied _ _ _ c.in_default.not-Accepted ∙ ap (by_judge _ _) c.judge-answer.ensures.exact

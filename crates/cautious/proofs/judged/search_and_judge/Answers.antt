@@ -7,4 +7,4 @@ returns-in-Safe c =
     judges-safe _ _ _ _ _ _ _ c.search-answer.ensures _ _ _ c.in-Safe.is e.value e.list_after
 
 pub returns-in_default : goal.returns-in_default
-returns-in_default c = judges-other _ _ _ _ _ _ _ c.search-answer.ensures c.in_default.keys2
+returns-in_default c = judges-other _ _ _ _ _ _ _ c.search-answer.ensures c.in_default.not-Safe

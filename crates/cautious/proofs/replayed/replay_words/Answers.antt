@@ -12,4 +12,4 @@ pub returns-in-ReachesBad : goal.returns-in-ReachesBad
 returns-in-ReachesBad c = ap (by_replay _) (sym c.in-ReachesBad.is ∙ c.replay-answer.ensures.exact)
 
 pub returns-in_default : goal.returns-in_default
-returns-in_default c = run-denied _ _ c.in_default.keys2 ∙ ap (by_replay _) c.replay-answer.ensures.exact
+returns-in_default c = run-denied _ _ c.in_default.not-ReachesBad ∙ ap (by_replay _) c.replay-answer.ensures.exact

@@ -8,4 +8,4 @@ pub returns-in-Unsafe : goal.returns-in-Unsafe
 returns-in-Unsafe c = replays-unsafe _ _ _ _ _ _ c.search-answer.ensures _ _ c.in-Unsafe.is _ c.replay_words.ensures
 
 pub returns-in_default : goal.returns-in_default
-returns-in_default c = replays-other _ _ _ _ _ _ c.search-answer.ensures c.in_default.keys2
+returns-in_default c = replays-other _ _ _ _ _ _ c.search-answer.ensures c.in_default.not-Unsafe
