@@ -15,7 +15,7 @@ use Rattle.table.specs.declared.checks.Shape.{Shape}
 use Rattle.table.proofs.SystemLaws.{channels-are, messages-are, well-made, few-messages, few-channels}
 use Rattle.work.specs.Layout.{Stored, NarrowRows}
 use Rattle.work.specs.Room.{room_of}
-use Rattle.explore.specs.Search.{Entry, safe}
+use Rattle.explore.specs.Search.{Entry}
 use Rattle.explore.specs.Found.{Rows}
 use Rattle.findings.specs.Search.{frame_of, first_entry}
 use Rattle.findings.proofs.RowLaws.{entry-row-of}
@@ -25,7 +25,6 @@ use Rattle.search.specs.declared.searches.Answer as search
 use Rattle.search.specs.declared.searches.Answer.TheVariants.{Refused, SmallWork, SmallRun, Safe, Unsafe, RowsFull, AtomsFull}
 use Rattle.search.proofs.FindingLaws.{Finding, bad_start, closed, reached, too_wide, no_room}
 use Rattle.search.proofs.StandingLaws.{narrow-rows}
-use Rattle.lists.specs.Reading.{rows_of}
 use Rattle.writer.specs.Words.{rows_in}
 use Rattle.writer.specs.Writing.{bytes_for, bytes_with, bytes_of, left_by, written_with, written}
 use Rattle.writer.specs.declared.calls.Written.TheVariants.{Bytes}

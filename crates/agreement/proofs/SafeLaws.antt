@@ -18,7 +18,7 @@ use Rattle.rows.specs.Outcomes.{outcome, InOutcome}
 use Rattle.rows.proofs.CoverLaws.{covers-iff}
 use Rattle.rows.proofs.OutcomeLaws.{outcome-iff, impossible-iff}
 use Rattle.rows.proofs.RowOfLaws.{outcome-of}
-use Rattle.explore.specs.Search.{Entry, safe, search}
+use Rattle.explore.specs.Search.{Entry, safe}
 use Rattle.explore.proofs.TestLaws.{covered-iff}
 use Rattle.explore.specs.Found.{Settled, never, within, Rows, Says}
 use Rattle.findings.specs.Search.{outcome_at, bad_row, frame_of, first_entry}

@@ -11,7 +11,7 @@ use Rattle.common.proofs.PartLaws.{part_none, part-snoc, part-take, part-set}
 use Rattle.atoms.specs.Masks.{absorbs, Atoms}
 use Rattle.atoms.specs.Normal.{Removal, before, behind, later, Removals, done, more, push, normal}
 use Rattle.atoms.specs.Ranges.{KeptBefore, Added}
-use Rattle.atoms.proofs.NormalLaws.{Apart, Chain, chain-rest, push-gone, push-takes, push-stays, push-last, normal-chain, normal-normal, normal-removals, removals-then, any_order}
+use Rattle.atoms.proofs.NormalLaws.{Apart, Chain, push-gone, push-takes, push-stays, push-last, normal-chain, normal-normal, normal-removals, removals-then, any_order}
 
 -- ---- normal products
 

@@ -2,22 +2,21 @@
 use mathlib.Core.Path.{◌≡◌, refl, sym, ap, subst, ◌∙◌}
 use mathlib.Core.Bool.{Bool, true, false, true≢false}
 use mathlib.Core.Logic.{◌⊎◌, inl, inr, ⊎_elim, ◌↔◌}
-use mathlib.Core.List.{List, [], ◌∷◌, ◌++◌}
-use Prim.Native.Nat.{ℕ, zero, suc, ◌+◌, ◌-◌, ◌*◌, ◌/◌, ◌%◌, ◌^◌, ◌<◌, ◌≤◌}
-use native.Mathlib.Nat.{zero-lt-suc, div-eq_of_lt, div-lt_iff_lt-mul, one-mul}
+use mathlib.Core.List.{List, [], ◌∷◌}
+use Prim.Native.Nat.{ℕ, ◌+◌, ◌-◌, ◌*◌, ◌/◌, ◌%◌, ◌^◌, ◌<◌, ◌≤◌}
+use native.Mathlib.Nat.{div-lt_iff_lt-mul, one-mul}
 use native.Mathlib.Omega.{arith}
 use lib.Bits.{bit_and, bit_or, and_mask, mask_lt, or_shifted}
 use lib.Dec.{eqb, ltb}
 use lib.Pow.{pow_mono, pow_pos, pow-lt, shl_exact}
-use borrow.Author.Tests.{eqb-true, eqb-false, eq-eqb, ne_eqb, ltb-true, ltb-false}
+use borrow.Author.Tests.{eqb-true, eqb-false, eq-eqb, ltb-true, ltb-false}
 use Rattle.common.specs.Choice.{if_true, if_eq}
-use Rattle.common.specs.Each.{Each}
 use Rattle.common.proofs.BoolLaws.{either, clash}
 use Rattle.common.proofs.ChoiceLaws.{true-then, true-else, true-cases, lt-then, lt-cases, eq-then, eq-else, eq-cases}
 use Rattle.meaning.proofs.SendLaws.{Alone}
-use Rattle.atoms.specs.Masks.{bit, star, has, meant, sub, IsAtom, AtomOf, messages, atom_test, single_of, star_of, Atoms, AtomsOf}
+use Rattle.atoms.specs.Masks.{bit, star, has, meant, IsAtom, AtomOf, messages, atom_test, single_of, star_of, Atoms, AtomsOf}
 use Rattle.atoms.proofs.BitLaws.{bit_high, bit-none, bit-shift, bit-low, bits-sub, sub-both, some-bit, power-bit, power-only, power-mask, mask-power}
-use Rattle.atoms.proofs.MaskLaws.{has-bit, same-atom, bit-cases}
+use Rattle.atoms.proofs.MaskLaws.{has-bit, bit-cases}
 
 -- ---- the message bits
 

@@ -1,5 +1,5 @@
 -- The normal form: removals keep the words, end in one product whatever their order, and that product is fixed by the words.
-use mathlib.Core.Path.{◌≡◌, refl, sym, ap₂, subst, ◌∙◌}
+use mathlib.Core.Path.{◌≡◌, refl, sym, ap₂, subst}
 use mathlib.Core.Bool.{true, false}
 use mathlib.Core.Logic.{◌⊎◌, inl, inr, ⊎_elim, ◌↔◌}
 use mathlib.Core.List.{List, [], ◌∷◌}

@@ -1,7 +1,7 @@
 -- The answer of search, writer and judge in a row: how it comes about, and that accepted is said only of lists that the judge accepts.
 use mathlib.Core.Path.{◌≡◌, refl, sym, ap, ◌∙◌}
 use mathlib.Core.Logic.{◌⊎◌, inl, inr}
-use mathlib.Core.List.{List, [], ◌∷◌}
+use mathlib.Core.List.{List}
 use mathlib.Core.Option.{Option, none, some}
 use Prim.Native.Nat.{ℕ, ◌<◌, ◌≤◌}
 use native.Mathlib.Omega.{arith}
@@ -16,21 +16,18 @@ use Rattle.table.specs.declared.checks.Checked.{Checked}
 use Rattle.table.specs.declared.checks.Checked.TheVariants as checked
 use Rattle.work.specs.Room.{room_of}
 use Rattle.search.specs.Searching.{Searches}
-use Rattle.search.specs.contracts.searches.Answer as search-enum
 use Rattle.search.specs.declared.searches.Answer as search
 use Rattle.search.specs.declared.searches.Answer.TheVariants as searched
 use Rattle.writer.specs.Fitting.{first_not, row_passes}
 use Rattle.writer.specs.Writing.{written, written_with, written_for, after_look, left_by, bytes_for, bytes_with, bytes_of}
-use Rattle.writer.specs.contracts.calls.Written as writer-enum
 use Rattle.writer.specs.declared.calls.Written.{Written}
 use Rattle.writer.specs.declared.calls.Written.TheVariants as wrote
 use Rattle.judge.specs.Judging.{judge_of}
-use Rattle.judge.specs.contracts.judging.Answer as judge-enum
 use Rattle.judge.specs.declared.judging.Answer as judge
 use Rattle.judge.specs.declared.judging.Answer.TheVariants as answer
 use Rattle.cautious.specs.Judged.{by_judge, by_writer, by_search, list_left, work_left, JudgesSearch}
 use Rattle.cautious.specs.declared.judged.Judged.{Judged}
-use Rattle.cautious.specs.declared.judged.Judged.TheVariants.{Accepted, Unwritten, Denied, NotSafe}
+use Rattle.cautious.specs.declared.judged.Judged.TheVariants.{Unwritten, Denied, NotSafe}
 
 -- ---- the arms of each match: the one answer that goes on, and all others
 

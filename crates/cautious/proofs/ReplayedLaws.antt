@@ -1,6 +1,6 @@
 -- The answer of search and replay in a row: how it comes about.
 use mathlib.Core.Path.{◌≡◌, refl, sym, ap, subst, ◌∙◌}
-use mathlib.Core.List.{List, [], ◌∷◌}
+use mathlib.Core.List.{List}
 use Prim.Native.Nat.{ℕ, ◌≤◌}
 use native.Mathlib.Omega.{arith}
 use lib.ListN.{length, take, drop, length-append}
@@ -9,12 +9,10 @@ use Rattle.common.specs.Part.{part}
 use Rattle.common.proofs.FrontLaws.{front-part}
 use Rattle.common.proofs.PartLaws.{part-take}
 use Rattle.search.specs.Searching.{Result, Searches}
-use Rattle.search.specs.contracts.searches.Answer as search-enum
 use Rattle.search.specs.declared.searches.Answer as search
 use Rattle.search.specs.declared.searches.Answer.TheVariants as searched
 use Rattle.search.proofs.SearchLaws.{Counted, search-counted}
 use Rattle.replay.specs.Replaying.{replay_of}
-use Rattle.replay.specs.contracts.replays.Answer as replay-enum
 use Rattle.replay.specs.declared.replays.Answer as replay
 use Rattle.replay.specs.declared.replays.Answer.TheVariants as answer
 use Rattle.cautious.specs.Judged.{result_of, work_left}

@@ -8,7 +8,6 @@ use Prim.Native.Nat.{ℕ, zero, suc, ◌+◌, ◌<◌}
 use native.Mathlib.Omega.{arith}
 use lib.Dec.{eqb}
 use borrow.Author.Tests.{eqb-true, eq-eqb}
-use Rattle.common.specs.Choice.{if_true}
 use Rattle.common.specs.First.{any_of, first_place, first_with, is_in}
 use Rattle.common.proofs.AtLaws.{At, mem-at}
 use Rattle.common.proofs.BoolLaws.{either, clash}

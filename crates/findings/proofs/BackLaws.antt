@@ -26,7 +26,7 @@ use Rattle.atoms.proofs.SendLaws.{send-iff, rounds-iff}
 use Rattle.atoms.proofs.ReceiveLaws.{After, receive-iff}
 use Rattle.rows.specs.Outcomes.{after}
 use Rattle.rows.proofs.OutcomeLaws.{Holds, HoldsIn, put_word, at-put}
-use Rattle.playing.specs.Play.{number, lost, taken, operated, play_move}
+use Rattle.playing.specs.Play.{number, taken, operated, play_move}
 use Rattle.playing.proofs.PlayLaws.{front-taken, Plays, plays-none, plays-then, plays-one}
 use Rattle.findings.specs.Rebuild.{ends_with, all_but_last, stripped, Back, back}
 use Rattle.findings.proofs.EndLaws.{ends_last, strip-whole, strip-ends, strip-⪯, unended-⪯, unended-rounds, ended-⪯}

@@ -18,14 +18,13 @@ use Rattle.meaning.specs.Outcomes.{self_loop_send}
 use Rattle.meaning.specs.Products.{ProductWord, end}
 use Rattle.meaning.proofs.ProductLaws.{product-nil}
 use Rattle.atoms.specs.Products.{product, WordOf}
-use Rattle.atoms.specs.Normal.{normal}
 use Rattle.atoms.proofs.NormalLaws.{normal-words}
 use Rattle.rows.specs.Rows.{Row, normal_row}
 use Rattle.rows.specs.Outcomes.{outcome}
 use Rattle.rows.proofs.OutcomeLaws.{Holds, HoldsIn, outcome-parts}
 use Rattle.explore.specs.Search.{Entry}
 use Rattle.explore.specs.Found.{Linked, Rows, Met}
-use Rattle.playing.specs.Play.{play, reaches_bad, judge_end, replay}
+use Rattle.playing.specs.Play.{reaches_bad, judge_end, replay}
 use Rattle.playing.proofs.PlayLaws.{Plays, plays-then}
 use Rattle.findings.specs.Search.{outcome_at, bad_row, frame_of, first_entry}
 use Rattle.findings.specs.Rebuild.{Back, back, back_over, rebuilt, run_of}

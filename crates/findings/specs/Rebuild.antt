@@ -1,10 +1,10 @@
 -- The run, rebuilt from the end with every channel empty.
 use Rattle.std.specs.Prelude.{Bool, true, false, List, [], ◌∷◌, ◌++◌, ℕ, zero, suc, ◌+◌, ◌-◌, eqb, length, replicate}
-use Rattle.std.proofs.Math.Option.{Option, none, some}
+use Rattle.std.proofs.Math.Option.{none, some}
 use Rattle.std.proofs.Math.ListN.{get_elem?}
 use Rattle.common.specs.Choice.{if_true, if_eq}
 use Rattle.meaning.specs.Words.{Word}
-use Rattle.meaning.specs.Systems.{Operation, quiet, send, Move, System, Contents, put}
+use Rattle.meaning.specs.Systems.{Operation, quiet, send, System, Contents, put}
 use Rattle.meaning.specs.Outcomes.{self_loop_send}
 use Rattle.explore.specs.Search.{Entry}
 use Rattle.findings.specs.Search.{frame_of}

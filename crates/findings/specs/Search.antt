@@ -1,14 +1,14 @@
 -- The search at a system: its rows and outcomes are those of the rules.
-use Rattle.std.specs.Prelude.{Bool, true, false, List, [], ℕ, zero, suc, length}
+use Rattle.std.specs.Prelude.{Bool, true, false, List, ℕ, zero, suc, length}
 use Rattle.std.proofs.Math.Option.{Option, none, some, map}
 use Rattle.std.proofs.Math.ListN.{get_elem?}
-use Rattle.common.specs.Choice.{if_true, if_lt}
+use Rattle.common.specs.Choice.{if_lt}
 use Rattle.common.specs.First.{is_in}
-use Rattle.meaning.specs.Systems.{Move, System}
+use Rattle.meaning.specs.Systems.{System}
 use Rattle.rows.specs.Rows.{Row, normal_row, start_row, covers}
 use Rattle.rows.specs.Outcomes.{outcome}
 use Rattle.explore.specs.Frame.{Frame}
-use Rattle.explore.specs.Search.{Entry, Verdict, Found, search}
+use Rattle.explore.specs.Search.{Entry}
 
 -- Some of the first n products has more than 24 atoms.
 unfoldable pub is_too_wide : ℕ → (ℕ → List ℕ) → Bool

@@ -1,5 +1,5 @@
 -- The product of the channel that a move changes, written to the front of a buffer. It is not brought to normal form.
-use Rattle.std.specs.Prelude.{◌≡◌, List, [], ◌∷◌, ◌++◌, ℕ, ◌+◌, ◌≤◌}
+use Rattle.std.specs.Prelude.{◌≡◌, List, [], ◌∷◌, ◌++◌, ℕ, ◌≤◌}
 use Rattle.std.proofs.Math.Option.{Option, none, some}
 use Rattle.common.specs.Part.{part}
 use Rattle.meaning.specs.Systems.{put}

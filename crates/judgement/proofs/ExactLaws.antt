@@ -1,13 +1,12 @@
 -- The judge is exact: its answer is the first that holds of no start, bad row, not closed, accepted, each said of configurations.
-use mathlib.Core.Path.{◌≡◌, refl, sym, subst, ◌∙◌}
+use mathlib.Core.Path.{◌≡◌, refl, sym, subst}
 use mathlib.Core.Bool.{Bool, true, false, not}
-use mathlib.Core.Logic.{◌⊎◌, inl, inr, ◌↔◌, ⊎_elim}
+use mathlib.Core.Logic.{◌⊎◌, inl, inr, ◌↔◌}
 use mathlib.Core.List.{List, Memᴰ}
 use mathlib.Core.Option.{Option, none, some}
 use Prim.Native.Nat.{ℕ, ◌+◌, ◌<◌, ◌≤◌}
 use native.Mathlib.Omega.{arith}
-use borrow.Author.Tests.{not-true, not-false}
-use Rattle.common.specs.Choice.{if_true}
+use borrow.Author.Tests.{not-false}
 use Rattle.common.specs.First.{is_in}
 use Rattle.common.proofs.AtLaws.{At, mem-at}
 use Rattle.common.proofs.BoolLaws.{either, clash}

@@ -1,13 +1,12 @@
 -- The judge accepts exactly the inductive invariants: two rows never cover an outcome between them that neither covers.
-use mathlib.Core.Path.{◌≡◌, refl, sym, subst, ◌∙◌}
-use mathlib.Core.Bool.{Bool, true, false}
+use mathlib.Core.Path.{◌≡◌, refl, sym, subst}
+use mathlib.Core.Bool.{true, false}
 use mathlib.Core.Logic.{◌⊎◌, inl, inr, ◌↔◌}
 use mathlib.Core.List.{List, [], ◌∷◌, Memᴰ}
 use mathlib.Core.Option.{Option, none, some, none-ne-some, some-injective}
 use Prim.Native.Nat.{ℕ, zero, suc, ◌≤◌}
 use lib.Dec.{eqb}
 use borrow.Author.Tests.{eqb-true, eqb-false}
-use Rattle.common.specs.Each.{Each}
 use Rattle.common.proofs.AtLaws.{At}
 use Rattle.common.proofs.BoolLaws.{either, clash}
 use Rattle.common.proofs.FirstLaws.{none-iff}
@@ -23,7 +22,7 @@ use Rattle.rows.specs.Outcomes.{outcome, InOutcome}
 use Rattle.rows.proofs.CoverLaws.{covers-iff}
 use Rattle.rows.proofs.OutcomeLaws.{outcome-iff}
 use Rattle.rows.proofs.RowOfLaws.{outcome-of}
-use Rattle.judgement.specs.Judge.{accepted, judge, covered_by, settled}
+use Rattle.judgement.specs.Judge.{accepted, judge, settled}
 use Rattle.judgement.proofs.SettledLaws.{In, Held, Kept, settled-iff}
 use Rattle.judgement.proofs.ExactLaws.{NoBad, AllKept, accepted-iff}
 use Rattle.judgement.proofs.SoundLaws.{step-held, held-harmless}

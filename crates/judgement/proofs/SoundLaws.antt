@@ -1,13 +1,13 @@
 -- The judge is sound: where it accepts, no run reaches a bad state.
-use mathlib.Core.Path.{◌≡◌, refl, sym, subst, ◌∙◌}
+use mathlib.Core.Path.{◌≡◌, subst}
 use mathlib.Core.Bool.{true, false}
-use mathlib.Core.Logic.{◌⊎◌, inl, inr, ◌↔◌}
+use mathlib.Core.Logic.{◌⊎◌, inl, inr}
 use mathlib.Core.List.{List, Memᴰ}
 use Prim.Native.Nat.{ℕ, ◌≤◌}
 use Rattle.common.proofs.AtLaws.{At}
 use Rattle.common.proofs.BoolLaws.{either}
-use Rattle.meaning.specs.Systems.{Move, System, WellMade, Config, Moves, Loses, Step, Run, start_of, Bad, Safe}
-use Rattle.meaning.specs.Outcomes.{Remains, Round, Rounds, more, self_loop_send, Leaves, once, rounds, Outcome}
+use Rattle.meaning.specs.Systems.{Move, System, WellMade, Config, Moves, Step, Bad, Safe}
+use Rattle.meaning.specs.Outcomes.{Round, Rounds, more, self_loop_send, Leaves, once, rounds, Outcome}
 use Rattle.meaning.proofs.LossLaws.{remains-refl}
 use Rattle.meaning.proofs.RunLaws.{run-keeps}
 use Rattle.meaning.proofs.RowLaws.{row-loses}

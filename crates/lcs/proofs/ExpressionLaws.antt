@@ -3,17 +3,17 @@ use mathlib.Core.Path.{◌≡◌, refl, sym, ap, subst, ◌∙◌}
 use mathlib.Core.Bool.{Bool, true, false, true≢false}
 use mathlib.Core.Logic.{◌⊎◌, inl, inr}
 use mathlib.Core.List.{List, [], ◌∷◌}
-use mathlib.Core.Option.{Option, none, some}
+use mathlib.Core.Option.{none, some}
 use Prim.Native.Nat.{ℕ, ◌+◌, ◌-◌, ◌<◌, ◌≤◌}
 use native.Mathlib.Omega.{arith}
-use lib.ListN.{length, get_or, drop}
+use lib.ListN.{length, get_or}
 use Rattle.common.specs.Choice.{if_true}
 use Rattle.common.specs.Front.{front}
 use Rattle.common.specs.Part.{part}
 use Rattle.common.proofs.ChoiceLaws.{true-then, true-else, true-cases, lt-then, lt-else, lt-cases}
 use Rattle.common.proofs.FrontLaws.{front-part}
-use Rattle.common.proofs.PartLaws.{part_none, part-cons, part-all, part-take, part_length}
-use Rattle.atoms.specs.Masks.{IsAtom, Atoms, atom_test, has}
+use Rattle.common.proofs.PartLaws.{part_none, part-cons, part-all, part_length}
+use Rattle.atoms.specs.Masks.{Atoms, atom_test}
 use Rattle.atoms.specs.Contained.{contained}
 use Rattle.atoms.specs.Receive.{received}
 use Rattle.atoms.specs.Normal.{normal}

@@ -1,6 +1,6 @@
 -- The numbers in `out` of a refusal, from the number and the place that were asked for.
 use mathlib.Core.Path.{◌≡◌, ap, ◌∙◌}
-use mathlib.Core.List.{List, [], ◌∷◌}
+use mathlib.Core.List.{[], ◌∷◌}
 use Prim.Native.Nat.{ℕ}
 use Rattle.table.specs.Answers.{number_of, place_of}
 use Rattle.table.specs.declared.faults.Fault.{Fault}

@@ -12,7 +12,7 @@ use Rattle.table.specs.declared.faults.Fault.TheVariants.{Count}
 use Rattle.table.specs.declared.checks.Shape.{Shape}
 use Rattle.lists.specs.Format.{joined, number_bytes, product_bytes, payload_bytes, row_bytes, list_bytes}
 use Rattle.lists.specs.Reading.{fails, read_many, read_atom, read_product, read_payload, frame_at, read_row, read_rows, read_list, check_list, rows_of, row_with}
-use Rattle.lists.specs.Answers.{ListAnswer, good, refused, list_answer}
+use Rattle.lists.specs.Answers.{ListAnswer, refused, list_answer}
 use Rattle.lists.specs.declared.records.Framed.TheVariants.{End}
 use Rattle.lists.specs.declared.reading.ListChecked.TheVariants.{Good}
 

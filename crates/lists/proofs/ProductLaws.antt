@@ -1,7 +1,7 @@
 -- The products of a row, read one after the other and stored.
 use mathlib.Core.Path.{◌≡◌, refl, sym, ap, ◌∙◌}
 use mathlib.Core.List.{List, [], ◌∷◌, ◌++◌}
-use Prim.Native.Nat.{ℕ, ◌+◌, ◌*◌, ◌-◌, ◌<◌, ◌≤◌}
+use Prim.Native.Nat.{ℕ, ◌+◌, ◌*◌, ◌<◌, ◌≤◌}
 use native.Mathlib.Omega.{arith}
 use lib.ListN.{length, set, length-set, length-append}
 use Rattle.common.specs.Store.{put_at}
@@ -10,7 +10,7 @@ use Rattle.common.proofs.StoreLaws.{put-none, put_next, put_then, put-length}
 use Rattle.reader.specs.Bytes.{byte_at}
 use Rattle.table.specs.declared.faults.Fault.{Fault}
 use Rattle.lists.specs.Format.{joined}
-use Rattle.lists.specs.Reading.{read, fails, read_many, read_atom, read_product}
+use Rattle.lists.specs.Reading.{fails, read_many, read_atom, read_product}
 use Rattle.lists.specs.Loading.{Products, atoms_in, ends}
 use Rattle.lists.specs.Steps.{AtomsRead, ProductRead, ProductsRead}
 use Rattle.lists.proofs.ManyLaws.{Reading, reading-starts, reading-on, reading-fails, reading-ends}

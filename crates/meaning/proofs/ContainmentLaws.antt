@@ -1,11 +1,11 @@
 -- Containment, head against head (000, lemma 4.1 and its use): which head is dropped, and that nothing is lost or gained by it.
-use mathlib.Core.Path.{◌≡◌, refl, sym, ap, ◌∙◌}
+use mathlib.Core.Path.{◌≡◌, sym, ap, ◌∙◌}
 use mathlib.Core.Bool.{true, false}
 use mathlib.Core.Logic.{◌⊎◌, inl, inr, ⊎_elim, ◌↔◌}
-use mathlib.Core.List.{List, [], ◌∷◌, ◌++◌, append_assoc}
+use mathlib.Core.List.{[], ◌∷◌, ◌++◌, append_assoc}
 use Prim.Native.Nat.{ℕ}
 use Rattle.common.proofs.BoolLaws.{either, clash}
-use Rattle.meaning.specs.Words.{Word, lose}
+use Rattle.meaning.specs.Words.{Word}
 use Rattle.meaning.specs.Products.{Atom, Over, AtomWord, any, empty, one, Proper, Product, ProductWord, end, join, Contained}
 use Rattle.meaning.proofs.ProductLaws.{product-nil, product-skip, product-tail}
 use Rattle.meaning.proofs.HeadLaws.{no-message, head-lacks, head-single, head-one, head-star}

@@ -1,7 +1,6 @@
 -- Any two words of a product are what losses leave of a third; so are any two configurations of a row.
 use mathlib.Core.Path.{◌≡◌, refl, sym, ap, ◌∙◌}
-use mathlib.Core.Bool.{true, false}
-use mathlib.Core.List.{List, [], ◌∷◌, ◌++◌}
+use mathlib.Core.List.{[], ◌∷◌, ◌++◌}
 use Prim.Native.Nat.{ℕ}
 use Rattle.common.proofs.BoolLaws.{clash}
 use Rattle.meaning.specs.Words.{Word, ◌⪯◌}

@@ -2,17 +2,17 @@
 use mathlib.Core.Path.{◌≡◌, refl, sym, ap, subst, ◌∙◌, fun_ext}
 use mathlib.Core.Bool.{cond, true, false}
 use mathlib.Core.Logic.{◌⊎◌, inl, inr}
-use mathlib.Core.List.{List, [], ◌∷◌, ◌++◌, append_assoc}
+use mathlib.Core.List.{[], ◌∷◌, ◌++◌, append_assoc}
 use Prim.Native.Nat.{ℕ, zero, suc, ◌<◌, ◌≤◌}
 use native.Mathlib.Omega.{arith}
-use lib.Dec.{eqb, ltb}
+use lib.Dec.{ltb}
 use borrow.Author.Tests.{ltb-true, ltb-false, lt-ltb, le-ltb}
 use Rattle.meaning.specs.Words.{Word, ◌⪯◌, done, keep, lose}
-use Rattle.meaning.specs.Systems.{System, Contents, Config, put, Loses, Step, Run, stay, step}
+use Rattle.meaning.specs.Systems.{System, Contents, Config, put, Loses, Step, Run, stay}
 use Rattle.meaning.specs.Outcomes.{Remains}
 use Rattle.common.proofs.BoolLaws.{either}
 use Rattle.meaning.proofs.WordLaws.{⪯-refl, ⪯-trans, ⪯-one}
-use Rattle.meaning.proofs.PutLaws.{put_same, put_other, put-each, put-put, put_id}
+use Rattle.meaning.proofs.PutLaws.{put_same, put-each, put-put, put_id}
 use Rattle.meaning.proofs.RunLaws.{run-then, step_then}
 
 pub remains-refl : (x : Config) → Remains x x

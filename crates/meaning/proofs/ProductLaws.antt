@@ -1,8 +1,7 @@
 -- The words of atoms and products.
-use mathlib.Core.Path.{◌≡◌, refl, sym, ap, ◌∙◌}
-use mathlib.Core.Bool.{true, false}
+use mathlib.Core.Path.{refl, sym, ap, ◌∙◌}
 use mathlib.Core.Logic.{⊎_elim, ◌↔◌}
-use mathlib.Core.List.{List, [], ◌∷◌, ◌++◌, append_assoc, append-nil}
+use mathlib.Core.List.{[], ◌∷◌, ◌++◌, append_assoc, append-nil}
 use Prim.Native.Nat.{ℕ}
 use Rattle.meaning.specs.Words.{Word, ◌⪯◌, done, keep, lose}
 use Rattle.meaning.specs.Products.{Atom, Over, AtomWord, any, empty, one, Joined, Product, ProductWord, end, join}

@@ -15,7 +15,6 @@ use Rattle.atoms.specs.Ranges.{left_of, Within, Added}
 use Rattle.atoms.specs.declared.products.Left.{Left}
 use Rattle.atoms.specs.declared.products.Left.TheVariants as left
 use Rattle.outcome.specs.Outcomes.{Sent}
-use Rattle.outcome.specs.declared.outcomes.Change.TheVariants.{Impossible}
 
 -- l is the buffer b with the words of w from f up to t in front.
 module _ (w b l : List ℕ) (f t : ℕ) (e : l ≡ front (part f t w) b) (h : t ≤ length w) where

@@ -4,21 +4,18 @@ use mathlib.Core.Bool.{Bool, true, false}
 use mathlib.Core.Logic.{◌⊎◌, inl, inr}
 use mathlib.Core.List.{List, [], ◌∷◌, ◌++◌, append-nil, Memᴰ}
 use mathlib.Core.Option.{Option, none, some, map, none-ne-some, some-injective}
-use Prim.Native.Nat.{ℕ, suc, ◌+◌, ◌%◌}
-use native.Mathlib.Nat.{add-zero}
+use Prim.Native.Nat.{ℕ, suc, ◌+◌}
 use native.Mathlib.Omega.{arith}
-use lib.Dec.{ltb}
 use lib.ListN.{length, get_elem?}
-use Rattle.common.specs.Choice.{if_true, if_eq}
 use Rattle.common.specs.First.{is_in}
 use Rattle.common.proofs.AtLaws.{At, mem-at}
 use Rattle.common.proofs.ChoiceLaws.{eq-then, eq-cases, true-cases}
 use Rattle.common.proofs.FirstLaws.{in-iff}
 use Rattle.meaning.specs.Words.{Word}
-use Rattle.meaning.specs.Systems.{Operation, quiet, send, Move, System, Contents, Config, put, Operates, Moves, Loses, Step, Run, stay, step, start_of, Reachable, Bad}
+use Rattle.meaning.specs.Systems.{Operation, quiet, send, Move, System, Contents, Config, put, Operates, Step, Run, stay, step, start_of, Reachable, Bad}
 use Rattle.meaning.proofs.PutLaws.{put_same, put-put, put_id}
 use Rattle.meaning.proofs.RunLaws.{run-then}
-use Rattle.playing.specs.Play.{number, lost, taken, operated, play_move, play_word, Played, stuck_at, ends_in, play, Replayed, stuck, ends_elsewhere, reaches_bad, judge_end, replay}
+use Rattle.playing.specs.Play.{number, lost, taken, operated, play_move, play_word, Played, stuck_at, ends_in, play, ends_elsewhere, reaches_bad, judge_end, replay}
 
 abbrev at : ℕ → Contents → Config
 at s f = record { state = s; contents = f }

@@ -1,5 +1,5 @@
 -- The channels' contents as local memory holds them.
-use Rattle.std.specs.Prelude.{◌≡◌, Bool, true, false, List, [], ℕ, ◌+◌, ◌*◌, ◌<◌, ◌≤◌, length, get_or}
+use Rattle.std.specs.Prelude.{◌≡◌, Bool, true, false, List, ℕ, ◌+◌, ◌<◌, ◌≤◌, length}
 use Rattle.std.proofs.Math.Option.{Option, none, some}
 use Rattle.meaning.specs.Systems.{Contents, Operation, quiet, send, receive}
 use Rattle.channels.specs.Contents.{head_of, tail_of, contents_in}

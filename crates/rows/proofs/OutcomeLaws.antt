@@ -22,7 +22,7 @@ use Rattle.meaning.proofs.LossLaws.{remains-refl}
 use Rattle.meaning.proofs.RowLaws.{row-remains, lowest, lowest-in}
 use Rattle.meaning.proofs.OutcomeLaws.{outcome-closed, rounds-source}
 use Rattle.atoms.specs.Masks.{single_of, star_of}
-use Rattle.atoms.specs.Products.{product, WordOf}
+use Rattle.atoms.specs.Products.{WordOf}
 use Rattle.atoms.specs.Receive.{received}
 use Rattle.atoms.proofs.SendLaws.{send-iff, rounds-iff}
 use Rattle.atoms.proofs.ReceiveLaws.{After, receive-iff}

@@ -1,5 +1,5 @@
 -- The outcome of a move from a row.
-use Rattle.std.specs.Prelude.{Bool, true, false, cond, List, [], ◌∷◌, ◌++◌, ℕ}
+use Rattle.std.specs.Prelude.{Bool, cond, List, [], ◌∷◌, ◌++◌, ℕ}
 use Rattle.std.proofs.Math.Option.{Option, none, some, map}
 use Rattle.common.specs.Choice.{if_eq}
 use Rattle.meaning.specs.Systems.{Operation, quiet, send, Move, Config, put}

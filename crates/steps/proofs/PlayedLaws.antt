@@ -1,5 +1,5 @@
 -- A run that can be played can be told: its moves are there, and only sends are marked lost.
-use mathlib.Core.Path.{◌≡◌, refl, sym, ap, ◌∙◌}
+use mathlib.Core.Path.{◌≡◌, refl}
 use mathlib.Core.Bool.{Bool, true, false}
 use mathlib.Core.Logic.{◌⊎◌, inl, inr}
 use mathlib.Core.List.{List, [], ◌∷◌}
@@ -11,7 +11,7 @@ use Rattle.common.specs.Each.{Each}
 use Rattle.common.proofs.ChoiceLaws.{eq-cases}
 use Rattle.meaning.specs.Systems as meaning
 use Rattle.meaning.specs.Systems.{Move, System, Contents, Config}
-use Rattle.playing.specs.Play.{number, lost, operated, play_move, play_word, Played, stuck_at, ends_in, play}
+use Rattle.playing.specs.Play.{number, lost, operated, play_move, play_word, stuck_at, ends_in, play}
 use Rattle.wording.specs.Steps.{unsafe_text}
 use Rattle.steps.specs.Runs.{run, run_in}
 use Rattle.steps.proofs.BackLaws.{Sayable, Tellable, unsafe-back}

@@ -9,7 +9,7 @@ use Rattle.common.specs.Part.{part}
 use Rattle.common.proofs.PartLaws.{part_none, part-set}
 use Rattle.wording.specs.Words.{unsafe_word, steps_word, kept_word, lost_word, receive_word, quiet_word, end_word}
 use Rattle.steps.specs.Texts.{Read, read, nothing, behind, next, number_in, counted_in, read_as, Reads}
-use Rattle.steps.specs.Runs.{ending_in, step_in, first_in, run, not_at, steps_in, run_in, Tells}
+use Rattle.steps.specs.Runs.{ending_in, step_in, first_in, not_at, steps_in, run_in, Tells}
 use Rattle.steps.specs.declared.texts.Found.{Found}
 use Rattle.steps.specs.declared.texts.Found.TheVariants.{Is, Nowhere}
 use Rattle.steps.specs.declared.runs.Run.{Run}

@@ -30,7 +30,7 @@ use Rattle.lists.proofs.BackLaws.{written-good, written_back}
 use Rattle.lists.specs.declared.reading.ListChecked.TheVariants.{Good}
 use Rattle.writer.specs.Words.{word_from, count_in, product_in, row_in, rows_in}
 use Rattle.writer.specs.Fitting.{first_not, row_passes}
-use Rattle.writer.specs.Writing.{bytes_for, after_look, written_for, written}
+use Rattle.writer.specs.Writing.{bytes_for, after_look, written_for}
 use Rattle.writer.proofs.FitLaws.{all_fit}
 use Rattle.writer.specs.declared.calls.Written.TheVariants.{BadRow, TooSmall, Bytes}
 

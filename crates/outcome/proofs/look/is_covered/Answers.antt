@@ -1,7 +1,6 @@
 use mathlib.Core.Path.{sym, ◌∙◌}
 use native.Mathlib.Omega.{arith}
 use Rattle.outcome.proofs.LookLaws.{looking-starts, looking-next, looking-stops, looking-ends, rows_start, rows_end, row_other}
-use borrow.Author.Rules.{rules}
 use Rattle.outcome.proofs.look.is_covered.Goals as goal
 
 pub rows-init : goal.rows-init

@@ -1,5 +1,4 @@
 -- The part from four bytes behind the place is the payload.
-use borrow.Author.Rules.{rules}
 use mathlib.Core.Path.{refl}
 use Rattle.reader.proofs.RecordLaws.{part-is}
 use Rattle.reader.proofs.records.part_of.Goals as goal

@@ -1,5 +1,4 @@
 -- A whole record's payload is there, and is handed back; a cut one has none.
-use borrow.Author.Rules.{rules}
 use Rattle.reader.proofs.RecordLaws.{whole-there, payload-whole, payload_cut}
 use mathlib.Core.Path.{sym, ◌∙◌}
 use Rattle.reader.proofs.records.payload_at.Goals as goal

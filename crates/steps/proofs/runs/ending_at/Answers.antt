@@ -1,5 +1,4 @@
 use Rattle.steps.proofs.RunLaws.{ending-kept, ending-lost, ending-receive, ending-quiet}
-use borrow.Author.Rules.{rules}
 use Rattle.steps.proofs.runs.ending_at.Goals as goal
 
 pub returns-in-Is : goal.returns-in-Is

@@ -1,7 +1,6 @@
 use native.Mathlib.Omega.{arith}
 use Rattle.steps.proofs.TextLaws.{inside-known}
 use Rattle.steps.proofs.RunLaws.{first-nothing, first-halved, first-whole}
-use borrow.Author.Rules.{rules}
 use Rattle.steps.proofs.runs.first_line.Goals as goal
 
 pub returns-in-Nowhere : goal.returns-in-Nowhere

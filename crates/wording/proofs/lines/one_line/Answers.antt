@@ -1,5 +1,4 @@
 use native.Mathlib.Omega.{arith}
-use borrow.Author.Rules.{rules}
 use Rattle.wording.proofs.LineLaws.{one-length, one_written}
 use Rattle.wording.proofs.lines.one_line.Goals as goal
 

@@ -1,5 +1,4 @@
 use native.Mathlib.Omega.{arith}
-use borrow.Author.Rules.{rules}
 use Rattle.wording.proofs.LineLaws.{three-length, three-written}
 use Rattle.wording.proofs.lines.three_line.Goals as goal
 

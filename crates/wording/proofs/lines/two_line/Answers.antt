@@ -1,5 +1,4 @@
 use native.Mathlib.Omega.{arith}
-use borrow.Author.Rules.{rules}
 use Rattle.wording.proofs.LineLaws.{two-length, two-written}
 use Rattle.wording.proofs.lines.two_line.Goals as goal
 

@@ -4,7 +4,6 @@ use native.Mathlib.Omega.{arith}
 use Rattle.table.specs.Systems.{system_of}
 use Rattle.playing.specs.Play.{number, lost}
 use Rattle.wording.proofs.StepLaws.{word_number, move-short, step-written}
-use borrow.Author.Rules.{rules}
 use Rattle.wording.proofs.steps.step_line.Goals as goal
 
 pub write_number-next-requires : goal.write_number-next-requires

@@ -1,6 +1,5 @@
 -- Known by its case, an operation has the word for it.
 use Rattle.wording.proofs.StepLaws.{quiet_told, receive-told, lost-told, kept-told}
-use borrow.Author.Rules.{rules}
 use Rattle.wording.proofs.steps.write_happened.Goals as goal
 
 pub returns-in-Quiet : goal.returns-in-Quiet
