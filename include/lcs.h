@@ -1,6 +1,6 @@
 /* The checker for lossy channel systems, as C programs link it.
 
-   `rt staticlib lcs` proves the library and writes target/staticlib/liblcs.a, for x86-64 Linux.
+   `./archive` proves the library and writes target/staticlib/liblcs.a, for x86-64 Linux.
 
    Any words may be handed in: every call answers, and writes nothing but what is said here. Lent
    memory is a pointer, which is never null, and a number of elements, which may be 0. Memory that a

@@ -4,7 +4,7 @@
 
    In the repository's folder, on x86-64 Linux:
 
-       rt staticlib lcs
+       ./archive
        gcc -std=c11 -Wall -Wextra -O2 -I include examples/c/judge_table.c \
            target/staticlib/liblcs.a -o target/judge_table
        target/judge_table examples/a.table examples/b.table

@@ -17,7 +17,7 @@ const USAGE: &str = "usage:
   second unpack < TABLE    turn a table file into plain text
   second compare [NAME..] [--cases N] [--seed S]
                            compare the proved library with this program; called in the folder
-                           of the repository, after rt staticlib lcs and second/driver/build
+                           of the repository, after ./archive and second/driver/build
   second fuzz [--seed N] [--cases M]
                            the same with ever new random cases, until an answer differs: the
                            smallest such call that is found is printed

@@ -34,8 +34,7 @@ fn is_product(p: &[u16]) -> bool
 }
 
 // Whether every word of p is a word of q.
-#[unsafe(no_mangle)]
-pub extern "C" fn lcs_contained(p: &[u16], q: &[u16]) -> u32
+pub fn lcs_contained(p: &[u16], q: &[u16]) -> u32
     ensures { result ≡ contained_answer p.now q.now }
 {
     if is_product(p) {
@@ -64,8 +63,7 @@ fn normal_front(p: &mut [u16]) -> usize
 }
 
 // p in normal form, in its first places.
-#[unsafe(no_mangle)]
-pub extern "C" fn lcs_normal(p: &mut [u16]) -> u32
+pub fn lcs_normal(p: &mut [u16]) -> u32
     ensures value { result ≡ normal_answer p.old }
     ensures p_after { p.new ≡ normal_leaves p.old }
 {
@@ -91,8 +89,7 @@ fn receive_front(p: &mut [u16], m: usize) -> u32
 }
 
 // What a receive of the message leaves of p, in its first places.
-#[unsafe(no_mangle)]
-pub extern "C" fn lcs_receive(p: &mut [u16], message: u8) -> u32
+pub fn lcs_receive(p: &mut [u16], message: u8) -> u32
     ensures value { result ≡ receive_answer p.old message }
     ensures p_after { p.new ≡ receive_leaves p.old message }
 {

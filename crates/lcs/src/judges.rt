@@ -7,8 +7,7 @@ use judge::{Answer, judge};
 use table::{number_of, place_of};
 
 // Whether the list is accepted for the table, or the first reason why not, or the refusal.
-#[unsafe(no_mangle)]
-pub extern "C" fn lcs_judge(table: &[u8], list: &[u8], out: &mut [u64; 3]) -> u32
+pub fn lcs_judge(table: &[u8], list: &[u8], out: &mut [u64; 3]) -> u32
     ensures value { result ≡ judge_code (judge_answer table.now list.now) }
     ensures out_after { out.new ≡ judge_out (judge_answer table.now list.now) }
 {

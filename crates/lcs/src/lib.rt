@@ -1,9 +1,9 @@
-// The library as C and Rust programs link it. Each function is thin: it calls a proved one and lays the answer out as include/lcs.h says.
+// The library. Each function is thin: it calls a proved one and lays the answer out as include/lcs.h says. The crate lcs_c hands them to C and Rust programs.
 #![tactic(auto)]
 
-mod expressions;
-mod judges;
-mod replays;
-mod searches;
-mod tables;
-mod writes;
+pub mod expressions;
+pub mod judges;
+pub mod replays;
+pub mod searches;
+pub mod tables;
+pub mod writes;

@@ -7,8 +7,7 @@ use replay::{Answer, replay};
 use table::{number_of, place_of};
 
 // What the run comes to when all its words are played, or the refusal.
-#[unsafe(no_mangle)]
-pub extern "C" fn lcs_replay(table: &[u8], run: &[u16], out: &mut [u64; 3]) -> u32
+pub fn lcs_replay(table: &[u8], run: &[u16], out: &mut [u64; 3]) -> u32
     ensures value { result ≡ replay_code (replay_answer table.now run.now) }
     ensures out_after { out.new ≡ replay_out (replay_answer table.now run.now) }
 {

@@ -8,8 +8,7 @@ use search::searches::{Answer, search};
 use table::{number_of, place_of};
 
 // The search's verdict or the refusal, with its rows in the first words of the work table, and with unsafe the run in those of the run buffer.
-#[unsafe(no_mangle)]
-pub extern "C" fn lcs_search(
+pub fn lcs_search(
     table: &[u8],
     work: &mut [u16],
     run: &mut [u16],

@@ -6,8 +6,7 @@ ghost use Rattle.lcs.specs.Tables.{table_code, table_out};
 use table::{Checked, check_table, number_of, place_of};
 
 // Whether the bytes are a good table: its counts, or the refusal.
-#[unsafe(no_mangle)]
-pub extern "C" fn lcs_check_table(table: &[u8], out: &mut [u64; 3]) -> u32
+pub fn lcs_check_table(table: &[u8], out: &mut [u64; 3]) -> u32
     ensures value { result ≡ table_code (table_answer table.now) }
     ensures out_after { out.new ≡ table_out (table_answer table.now) }
 {

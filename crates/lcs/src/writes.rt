@@ -8,8 +8,7 @@ use table::{number_of, place_of};
 use writer::{Written, write_list};
 
 // How many bytes the list of the first rows of the work table has, which stands in the first bytes of list, or the refusal.
-#[unsafe(no_mangle)]
-pub extern "C" fn lcs_write_list(
+pub fn lcs_write_list(
     table: &[u8],
     work: &[u16],
     rows: u64,
