@@ -8,10 +8,10 @@ use crate::program::check_input;
 
 // The memory of the program: a byte more than the longest table has, so that a longer input shows; 103 work words for each of 256 rows;
 // two run words for each row; room for the first line and 14 bytes for each of 512 steps.
-fn main() {
+fn main(rt: HostRuntime) {
     let mut table = [0u8; 36875];
     let mut work = [0u16; 26368];
     let mut run = [0u16; 512];
     let mut out = [0u8; 8192];
-    check_input(&mut table, &mut work, &mut run, &mut out);
+    check_input(&rt, &mut table, &mut work, &mut run, &mut out);
 }

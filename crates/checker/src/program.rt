@@ -3,28 +3,35 @@ ghost use Rattle.std.specs.Prelude.{◌≡◌, length};
 
 use crate::answers::write_answer;
 use input::{Input, read_input};
-use libc::{STDERR_FILENO, STDIN_FILENO, STDOUT_FILENO};
+use std::io;
 
 // Writes to standard output, or says that it cannot.
-fn write_output(text: &[u8]) {
-    if io::write_all(STDOUT_FILENO, text) {
+fn write_output<R: Print + Eprint>(rt: &R, text: &[u8]) {
+    if rt.write_all(text).is_ok() {
         return;
     }
-    io::write_all(STDERR_FILENO, b"the output cannot be written\n");
+    let _ = rt.eprintln("the output cannot be written");
 }
 
 // Reads the input into the first buffer, and writes what is said of it by way of the last. Where a read fails nothing is said of the
 // table, since the bytes may be only part of it.
-pub fn check_input(table: &mut [u8], work: &mut [u16], run: &mut [u16], out: &mut [u8])
+pub fn check_input<R: io::Input + Print + Eprint>(
+    rt: &R,
+    table: &mut [u8],
+    work: &mut [u16],
+    run: &mut [u16],
+    out: &mut [u8],
+)
     requires { (length work.old ≡ 26368) × (length run.old ≡ 512) × (length out.old ≡ 8192) }
 {
-    match read_input(STDIN_FILENO, table) {
+    let mut reader = rt.reader();
+    match read_input(&mut reader, table) {
         Input::UpTo(n) => {
             let size = write_answer(&table[..n], work, run, out);
-            write_output(&out[..size]);
+            write_output(rt, &out[..size]);
         }
-        Input::Failed => {
-            io::write_all(STDERR_FILENO, b"the input cannot be read\n");
+        Input::Failed(_) => {
+            let _ = rt.eprintln("the input cannot be read");
         }
     }
 }

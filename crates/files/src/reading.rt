@@ -2,55 +2,62 @@
 ghost use Rattle.std.specs.Prelude.{length};
 ghost use Rattle.input.specs.Reading.{Between};
 
-use crate::names::is_named;
+use crate::failing::say_failure;
+use crate::names::no_name;
+use crate::system::open_read;
 use input::{Input, read_input};
-use libc::STDIN_FILENO;
+use std::env::Env;
+use std::io;
+use std::rt::Files;
 
 // Reads the file with that name into the buffer. A longer one fills it.
-fn read_file(path: &[u8], buffer: &mut [u8]) -> Input
+fn read_file<R: Files, E: Print>(rt: &R, errors: &E, path: &[u8], buffer: &mut [u8]) -> Input
     ensures { Between 0 (length buffer.old) result }
 {
-    let fd = os::open_read(path);
-    if fd < 0 {
-        os::fail(path);
-        return Input::Failed;
-    }
-    match read_input(fd, buffer) {
-        Input::UpTo(n) => {
-            libc::close(fd);
-            return Input::UpTo(n);
+    match open_read(rt, path) {
+        Ok(mut file) => {
+            let input = read_input(&mut file, buffer);
+            if let Input::Failed(error) = &input {
+                say_failure(errors, path, error);
+            }
+            input
         }
-        Input::Failed => {
-            os::fail(path);
-            libc::close(fd);
-            return Input::Failed;
+        Err(error) => {
+            say_failure(errors, path, &error);
+            Input::Failed(error)
         }
     }
 }
 
 // Reads the file that an argument names. Inner.
-pub fn read_named(argument: usize, what: &[u8], buffer: &mut [u8]) -> Input
+pub fn read_named<R: Env + Files, E: Print>(
+    rt: &R,
+    errors: &E,
+    argument: usize,
+    what: &[u8],
+    buffer: &mut [u8],
+) -> Input
     ensures { Between 0 (length buffer.old) result }
 {
-    if is_named(argument, what) {
-        let mut path = io::buffer();
-        let n = os::arg(argument, &mut path);
-        return read_file(&path[..n], buffer);
+    let mut path = [0u8; 4096];
+    match rt.arg(argument, &mut path) {
+        Ok(n) => read_file(rt, errors, &path[..n], buffer),
+        Err(why) => {
+            let error = no_name(why);
+            say_failure(errors, what, &error);
+            Input::Failed(error)
+        }
     }
-    Input::Failed
 }
 
 // Reads standard input. Inner.
-pub fn read_standard(buffer: &mut [u8]) -> Input
+pub fn read_standard<R: io::Input, E: Print>(rt: &R, errors: &E, buffer: &mut [u8]) -> Input
     ensures { Between 0 (length buffer.old) result }
 {
-    match read_input(STDIN_FILENO, buffer) {
-        Input::UpTo(n) => {
-            return Input::UpTo(n);
-        }
-        Input::Failed => {
-            os::fail(b"standard input");
-            return Input::Failed;
-        }
+    let mut reader = rt.reader();
+    let input = read_input(&mut reader, buffer);
+    if let Input::Failed(error) = &input {
+        say_failure(errors, b"standard input", error);
     }
+    input
 }

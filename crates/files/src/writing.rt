@@ -1,64 +1,91 @@
 // Texts and files written whole.
 ghost use Rattle.std.specs.Prelude.{◌≤◌, length};
 
-use crate::names::is_named;
-use libc::STDOUT_FILENO;
+use crate::failing::say_failure;
+use crate::names::no_name;
+use crate::system::{create, rename, unlink};
+use std::env::Env;
+use std::fs::OpenFile;
+use std::io;
+use std::io::Write;
+use std::rt::Files;
 use wording::texts::write_bytes;
 
 // Writes to standard output, or says why it cannot. Inner.
-pub fn write_output(text: &[u8]) {
-    if io::write_all(STDOUT_FILENO, text) {
-        return;
+pub fn write_output<R: Print, E: Print>(rt: &R, errors: &E, text: &[u8]) {
+    if let Err(error) = rt.write_all(text) {
+        say_failure(errors, b"standard output", &error);
     }
-    os::fail(b"standard output");
+}
+
+// Writes all bytes to the file, and closes it. What a late write would tell where the file is closed is asked for before, since a file that is
+// let go says nothing.
+fn write_whole<F: Write + OpenFile + Drop>(mut file: F, bytes: &[u8]) -> io::Result<()> {
+    file.write_all(bytes)?;
+    file.sync_all()
 }
 
 // Writes all bytes to a new file, and answers whether they are there; else that file is removed again.
-fn write_new(path: &[u8], bytes: &[u8]) -> bool {
-    let fd = os::create(path);
-    if fd < 0 {
-        os::fail(path);
-        return false;
+fn write_new<R: Files, E: Print>(rt: &R, errors: &E, path: &[u8], bytes: &[u8]) -> bool {
+    match create(rt, path) {
+        Ok(file) => {
+            if let Err(error) = write_whole(file, bytes) {
+                say_failure(errors, path, &error);
+                let _ = unlink(rt, path);
+                return false;
+            }
+            true
+        }
+        Err(error) => {
+            say_failure(errors, path, &error);
+            false
+        }
     }
-    let is_written = io::write_all(fd, bytes);
-    let is_closed = libc::close(fd) == 0;
-    if is_written && is_closed {
-        return true;
-    }
-    os::fail(path);
-    os::unlink(path);
-    false
 }
 
 // Writes a file by way of a new one beside it, which takes its name once it is whole.
-fn write_beside(path: &[u8], part: &[u8], bytes: &[u8]) -> bool {
-    if write_new(part, bytes) {
-        if os::rename(part, path) == 0 {
-            return true;
+fn write_beside<R: Files, E: Print>(
+    rt: &R,
+    errors: &E,
+    path: &[u8],
+    part: &[u8],
+    bytes: &[u8],
+) -> bool {
+    if write_new(rt, errors, part, bytes) {
+        if let Err(error) = rename(rt, part, path) {
+            say_failure(errors, path, &error);
+            let _ = unlink(rt, part);
+            return false;
         }
-        os::fail(path);
-        os::unlink(part);
-        return false;
+        return true;
     }
     false
 }
 
 // Writes a file whole, or leaves what stands under its name as it is. The new file has ".part" behind its name until it is whole.
-fn write_file(path: &[u8], bytes: &[u8]) -> bool
+fn write_file<R: Files, E: Print>(rt: &R, errors: &E, path: &[u8], bytes: &[u8]) -> bool
     requires { length path.now ≤ 4096 }
 {
     let mut part = [0u8; 4101];
     let end = write_bytes(&mut part, 0, path);
     let size = write_bytes(&mut part, end, b".part");
-    write_beside(path, &part[..size], bytes)
+    write_beside(rt, errors, path, &part[..size], bytes)
 }
 
 // Writes the file that an argument names, and answers whether it is written. Inner.
-pub fn write_named(argument: usize, what: &[u8], bytes: &[u8]) -> bool {
-    if is_named(argument, what) {
-        let mut path = io::buffer();
-        let n = os::arg(argument, &mut path);
-        return write_file(&path[..n], bytes);
+pub fn write_named<R: Env + Files, E: Print>(
+    rt: &R,
+    errors: &E,
+    argument: usize,
+    what: &[u8],
+    bytes: &[u8],
+) -> bool {
+    let mut path = [0u8; 4096];
+    match rt.arg(argument, &mut path) {
+        Ok(n) => write_file(rt, errors, &path[..n], bytes),
+        Err(why) => {
+            say_failure(errors, what, &no_name(why));
+            false
+        }
     }
-    false
 }

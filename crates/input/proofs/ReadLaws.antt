@@ -1,6 +1,5 @@
 -- The place up to which bytes were read, once it is known.
-use mathlib.Core.Path.{◌≡◌, subst}
-use Prim.Native.Nat.{ℕ, ◌≤◌}
+use Rattle.std.proofs.Common.{◌≡◌, ℕ, ◌≤◌, subst}
 use Rattle.input.specs.Reading.{Between}
 use Rattle.input.specs.declared.reading.Input.{Input}
 use Rattle.input.specs.declared.reading.Input.TheVariants.{UpTo}

@@ -6,4 +6,4 @@ use Rattle.input.specs.declared.reading.Input.TheVariants.{UpTo, Failed}
 -- The place is not before a, and not past the end.
 abbrev pub Between : ℕ → ℕ → Input → Type 0
 Between a end (UpTo n) = (a ≤ n) × (n ≤ end)
-Between a end Failed = Unit {0}
+Between a end (Failed error) = Unit {0}

@@ -4,19 +4,27 @@ ghost use Rattle.std.specs.Prelude.{◌≤◌, length};
 use crate::answers::write_answer;
 use files::{read_named, write_output};
 use input::Input;
+use std::env::Env;
+use std::rt::Files;
 
 // Reads the table, then the list, and writes what is said of both. Where one cannot be read nothing is said, since the bytes may be only
 // part of it.
-pub fn judge_files(table: &mut [u8], list: &mut [u8], out: &mut [u8])
+pub fn judge_files<R: Env + Files + Print, E: Print>(
+    rt: &R,
+    errors: &E,
+    table: &mut [u8],
+    list: &mut [u8],
+    out: &mut [u8],
+)
     requires { 80 ≤ length out.old }
 {
-    match read_named(1, b"table", table) {
-        Input::Failed => {}
-        Input::UpTo(n) => match read_named(2, b"list", list) {
-            Input::Failed => {}
+    match read_named(rt, errors, 1, b"table", table) {
+        Input::Failed(_) => {}
+        Input::UpTo(n) => match read_named(rt, errors, 2, b"list", list) {
+            Input::Failed(_) => {}
             Input::UpTo(m) => {
                 let size = write_answer(&table[..n], &list[..m], out);
-                write_output(&out[..size]);
+                write_output(rt, errors, &out[..size]);
             }
         },
     }

@@ -4,19 +4,29 @@ ghost use Rattle.std.specs.Prelude.{◌≡◌, ◌≤◌, length};
 use crate::answers::write_answer;
 use files::{read_named, read_standard, write_output};
 use input::Input;
+use std::env::Env;
+use std::io;
+use std::rt::Files;
 
 // Reads the table, then the text, and writes what is said of both. Where one cannot be read nothing is said, since the bytes may be only
 // part of it.
-pub fn replay_input(table: &mut [u8], text: &mut [u8], words: &mut [u16], out: &mut [u8])
+pub fn replay_input<R: Env + Files + io::Input + Print, E: Print>(
+    rt: &R,
+    errors: &E,
+    table: &mut [u8],
+    text: &mut [u8],
+    words: &mut [u16],
+    out: &mut [u8],
+)
     requires { (28732 ≤ length words.old) × (80 ≤ length out.old) }
 {
-    match read_named(1, b"table", table) {
-        Input::Failed => {}
-        Input::UpTo(n) => match read_standard(text) {
-            Input::Failed => {}
+    match read_named(rt, errors, 1, b"table", table) {
+        Input::Failed(_) => {}
+        Input::UpTo(n) => match read_standard(rt, errors, text) {
+            Input::Failed(_) => {}
             Input::UpTo(m) => {
                 let size = write_answer(&table[..n], &text[..m], words, out);
-                write_output(&out[..size]);
+                write_output(rt, errors, &out[..size]);
             }
         },
     }
