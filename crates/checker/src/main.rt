@@ -13,5 +13,12 @@ fn main(rt: HostRuntime) {
     let mut work = [0u16; 26368];
     let mut run = [0u16; 512];
     let mut out = [0u8; 8192];
-    check_input(&rt, &mut table, &mut work, &mut run, &mut out);
+    check_input(
+        &rt,
+        &mut rt.stdin(),
+        &mut table,
+        &mut work,
+        &mut run,
+        &mut out,
+    );
 }

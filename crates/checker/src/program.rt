@@ -3,7 +3,7 @@ ghost use Rattle.std.specs.Prelude.{◌≡◌, length};
 
 use crate::answers::write_answer;
 use input::{Input, read_input};
-use std::io;
+use std::io::Read;
 
 // Writes to standard output, or says that it cannot.
 fn write_output<R: Print + Eprint>(rt: &R, text: &[u8]) {
@@ -15,8 +15,9 @@ fn write_output<R: Print + Eprint>(rt: &R, text: &[u8]) {
 
 // Reads the input into the first buffer, and writes what is said of it by way of the last. Where a read fails nothing is said of the
 // table, since the bytes may be only part of it.
-pub fn check_input<R: io::Input + Print + Eprint>(
+pub fn check_input<R: Print + Eprint, I: Read>(
     rt: &R,
+    reader: &mut I,
     table: &mut [u8],
     work: &mut [u16],
     run: &mut [u16],
@@ -24,8 +25,7 @@ pub fn check_input<R: io::Input + Print + Eprint>(
 )
     requires { (length work.old ≡ 26368) × (length run.old ≡ 512) × (length out.old ≡ 8192) }
 {
-    let mut reader = rt.reader();
-    match read_input(&mut reader, table) {
+    match read_input(reader, table) {
         Input::UpTo(n) => {
             let size = write_answer(&table[..n], work, run, out);
             write_output(rt, &out[..size]);

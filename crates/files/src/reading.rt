@@ -7,7 +7,7 @@ use crate::names::no_name;
 use crate::system::open_read;
 use input::{Input, read_input};
 use std::env::Env;
-use std::io;
+use std::io::Read;
 use std::rt::Files;
 
 // Reads the file with that name into the buffer. A longer one fills it.
@@ -51,11 +51,10 @@ pub fn read_named<R: Env + Files, E: Print>(
 }
 
 // Reads standard input. Inner.
-pub fn read_standard<R: io::Input, E: Print>(rt: &R, errors: &E, buffer: &mut [u8]) -> Input
+pub fn read_standard<I: Read, E: Print>(reader: &mut I, errors: &E, buffer: &mut [u8]) -> Input
     ensures { Between 0 (length buffer.old) result }
 {
-    let mut reader = rt.reader();
-    let input = read_input(&mut reader, buffer);
+    let input = read_input(reader, buffer);
     if let Input::Failed(error) = &input {
         say_failure(errors, b"standard input", error);
     }

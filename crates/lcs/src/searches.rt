@@ -8,12 +8,7 @@ use search::searches::{Answer, search};
 use table::{number_of, place_of};
 
 // The search's verdict or the refusal, with its rows in the first words of the work table, and with unsafe the run in those of the run buffer.
-pub fn lcs_search(
-    table: &[u8],
-    work: &mut [u16],
-    run: &mut [u16],
-    out: &mut [u64; 3],
-) -> u32
+pub fn lcs_search(table: &[u8], work: &mut [u16], run: &mut [u16], out: &mut [u64; 3]) -> u32
     ensures value { result ≡ search_code (searched table.now work.old run.old) }
     ensures out_after { out.new ≡ search_out (searched table.now work.old run.old) }
     ensures work_after { work.new ≡ front (all_words (searched table.now work.old run.old).rows) work.old }

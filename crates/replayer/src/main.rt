@@ -17,6 +17,7 @@ fn main(rt: HostRuntime) {
     replay_input(
         &rt,
         &rt.stderr(),
+        &mut rt.stdin(),
         &mut table,
         &mut text,
         &mut words,

@@ -5,14 +5,15 @@ use crate::answers::write_answer;
 use files::{read_named, read_standard, write_output};
 use input::Input;
 use std::env::Env;
-use std::io;
+use std::io::Read;
 use std::rt::Files;
 
 // Reads the table, then the text, and writes what is said of both. Where one cannot be read nothing is said, since the bytes may be only
 // part of it.
-pub fn replay_input<R: Env + Files + io::Input + Print, E: Print>(
+pub fn replay_input<R: Env + Files + Print, E: Print, I: Read>(
     rt: &R,
     errors: &E,
+    reader: &mut I,
     table: &mut [u8],
     text: &mut [u8],
     words: &mut [u16],
@@ -22,7 +23,7 @@ pub fn replay_input<R: Env + Files + io::Input + Print, E: Print>(
 {
     match read_named(rt, errors, 1, b"table", table) {
         Input::Failed(_) => {}
-        Input::UpTo(n) => match read_standard(rt, errors, text) {
+        Input::UpTo(n) => match read_standard(reader, errors, text) {
             Input::Failed(_) => {}
             Input::UpTo(m) => {
                 let size = write_answer(&table[..n], &text[..m], words, out);
