@@ -1,7 +1,7 @@
 // Words and numbers read from a place of a text on. All functions here are inner.
 ghost use Rattle.std.specs.Prelude.{◌≡◌, ◌+◌, ◌<◌, ◌≤◌, length, drop};
 ghost use Rattle.steps.specs.Texts.{behind, digits_in, number_in, counted_in, Reads};
-ghost use Rattle.steps.specs.Texts.{digit_of as digitIn};
+ghost use Rattle.steps.specs.Texts.{digit_of as digit_in};
 
 // A number that was read, and the place behind it; or something else stands there.
 #[derive(Clone, Copy)]
@@ -34,7 +34,7 @@ pub fn word_at(text: &[u8], at: usize, word: &[u8], value: usize) -> Found
 
 // What a byte counts as a digit; 10 for a byte that is none. Inner.
 fn digit_of(byte: u8) -> usize
-    ensures { result ≡ digitIn byte }
+    ensures { result ≡ digit_in byte }
 {
     if byte < 48 {
         return 10;
