@@ -15,4 +15,10 @@ returns-else-is_absorbed c =
     }
 
 pub returns : goal.returns
-returns c = let e : c.loop-k.k ≡ 0 = omega arith in record { few = omega arith; same = rw e at c.loop-k.invariant.1; stays = λ s. absurd (omega arith) }
+returns c =
+    let e : c.loop-k.k ≡ 0 = omega arith in
+    record {
+      few = omega arith;
+      same = rw e at c.loop-k.invariant.1;
+      stays = λ s. absurd (omega arith);
+    }

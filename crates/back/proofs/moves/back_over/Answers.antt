@@ -37,7 +37,11 @@ strip_sends-requires c =
     let p = c.requires in
     let u = c.transition_at-m.ensures in
     let z = c.in-Send.is in
-    let r = sends-in _ _ p.good_table.0 _ _ u (omega arith) _ _ z in record { channel_bound = (r.0, p.needed.0, omega arith, omega arith); channel_len_bound = strip-room _ _ p.good_table.0 _ _ u (omega arith) _ _ _ p.ends_len_bound _ _ z c.if-m.true }
+    let r = sends-in _ _ p.good_table.0 _ _ u (omega arith) _ _ z in
+    record {
+      channel_bound = (r.0, p.needed.0, omega arith, omega arith);
+      channel_len_bound = strip-room _ _ p.good_table.0 _ _ u (omega arith) _ _ _ p.ends_len_bound _ _ z c.if-m.true;
+    }
 
 pub returns-then-m : goal.returns-then-m
 returns-then-m c =

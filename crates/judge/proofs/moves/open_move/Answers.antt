@@ -14,7 +14,13 @@ transition_at-requires c =
     transition-there _ _ p.good_table _ (omega arith)
 
 pub is_settled-requires : goal.is_settled-requires
-is_settled-requires c = let p = c.requires in record { sized = p.sized; i_lt_rows = (omega arith, omega arith, omega arith); ranged = transition-in _ _ p.good_table _ _ c.transition_at.ensures (omega arith) }
+is_settled-requires c =
+    let p = c.requires in
+    record {
+      sized = p.sized;
+      i_lt_rows = (omega arith, omega arith, omega arith);
+      ranged = transition-in _ _ p.good_table _ _ c.transition_at.ensures (omega arith);
+    }
 
 pub loop-j-preserved : goal.loop-j-preserved
 loop-j-preserved c = (omega arith, open-later _ _ _ _ _ _ _ _ c.loop-j.invariant.1 (omega arith) _ c.transition_at.ensures c.is_settled.ensures c.if-is_settled.true)

@@ -26,9 +26,18 @@ overflow_sub-result c =
     p.1
 
 pub returns-in-Impossible : goal.returns-in-Impossible
-returns-in-Impossible c = let g = range-there _ _ _ _ _ _ _ _ c.requires.sized (omega arith) (omega arith) c.product_from-from.ensures c.product_to-to.ensures in record { buffer_after = received_none _ _ _ _ _ _ _ (omega arith) c.product_from-from.ensures c.product_to-to.ensures g _ c.receive_at.ensures.p_value c.in-Impossible.is; few_changed = tt }
+returns-in-Impossible c =
+    let g = range-there _ _ _ _ _ _ _ _ c.requires.sized (omega arith) (omega arith) c.product_from-from.ensures c.product_to-to.ensures in
+    record {
+      buffer_after = received_none _ _ _ _ _ _ _ (omega arith) c.product_from-from.ensures c.product_to-to.ensures g _ c.receive_at.ensures.p_value c.in-Impossible.is;
+      few_changed = tt;
+    }
 
 pub returns-in-From : goal.returns-in-From
 returns-in-From c =
     let p = left-place _ _ _ _ c.in-From.is c.receive_at.ensures.within in
-    let g = range-there _ _ _ _ _ _ _ _ c.requires.sized (omega arith) (omega arith) c.product_from-from.ensures c.product_to-to.ensures in record { buffer_after = received-some _ _ _ _ _ _ _ (omega arith) c.product_from-from.ensures c.product_to-to.ensures g _ c.receive_at.ensures.p_value _ _ _ c.in-From.is c.copy_front.ensures; few_changed = omega (arith, g.short) }
+    let g = range-there _ _ _ _ _ _ _ _ c.requires.sized (omega arith) (omega arith) c.product_from-from.ensures c.product_to-to.ensures in
+    record {
+      buffer_after = received-some _ _ _ _ _ _ _ (omega arith) c.product_from-from.ensures c.product_to-to.ensures g _ c.receive_at.ensures.p_value _ _ _ c.in-From.is c.copy_front.ensures;
+      few_changed = omega (arith, g.short);
+    }

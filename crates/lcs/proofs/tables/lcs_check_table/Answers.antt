@@ -2,7 +2,11 @@ use Rattle.lcs.proofs.TableLaws.{says-good, says-refused}
 use Rattle.lcs.proofs.tables.lcs_check_table.Goals as goal
 
 pub returns-in-Good : goal.returns-in-Good
-returns-in-Good c = record { value = (says-good _ _ _ c.check_table.ensures c.in-Good.is).0; out_after = (says-good _ _ _ c.check_table.ensures c.in-Good.is).1 }
+returns-in-Good c =
+    let told = says-good _ _ _ c.check_table.ensures c.in-Good.is in
+    record { value = told.0; out_after = told.1 }
 
 pub returns-in-Refused : goal.returns-in-Refused
-returns-in-Refused c = record { value = (says-refused _ _ _ _ _ _ c.check_table.ensures c.in-Refused.is c.number_of.ensures c.place_of.ensures).0; out_after = (says-refused _ _ _ _ _ _ c.check_table.ensures c.in-Refused.is c.number_of.ensures c.place_of.ensures).1 }
+returns-in-Refused c =
+    let told = says-refused _ _ _ _ _ _ c.check_table.ensures c.in-Refused.is c.number_of.ensures c.place_of.ensures in
+    record { value = told.0; out_after = told.1 }

@@ -14,7 +14,11 @@ shape_of-starts-in-Fails c = c.read_row.auto.starts ∙ c.loop-at.invariant.star
 
 pub returns-in-Fails : goal.returns-in-Fails
 unfolding RowTold
-returns-in-Fails c = record { value = rows-fail c.loop-at.invariant (omega arith) _ (rw c.in-Fails.is at c.read_row.ensures); list_told = tt }
+returns-in-Fails c =
+    record {
+      value = rows-fail c.loop-at.invariant (omega arith) _ (rw c.in-Fails.is at c.read_row.ensures);
+      list_told = tt;
+    }
 
 pub loop-at-smaller : goal.loop-at-smaller
 unfolding RowTold
@@ -28,4 +32,8 @@ pub shape_of-starts : goal.shape_of-starts
 shape_of-starts c = c.loop-at.invariant.starts_same ∙ simp length-set
 
 pub returns : goal.returns
-returns c = record { value = rows-good c.loop-at.invariant (omega arith); list_told = loaded-first _ _ _ _ _ _ _ (rows-loaded c.loop-at.invariant (omega arith)) }
+returns c =
+    record {
+      value = rows-good c.loop-at.invariant (omega arith);
+      list_told = loaded-first _ _ _ _ _ _ _ (rows-loaded c.loop-at.invariant (omega arith));
+    }

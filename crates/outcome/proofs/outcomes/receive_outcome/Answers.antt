@@ -14,4 +14,9 @@ received_into-requires c =
     omega arith
 
 pub returns : goal.returns
-returns c = let r = c.received_into.ensures in record { buffer_after = range-received _ _ _ _ (omega arith) c.count_of.ensures _ r.buffer_after; few_left = r.few_left }
+returns c =
+    let r = c.received_into.ensures in
+    record {
+      buffer_after = range-received _ _ _ _ (omega arith) c.count_of.ensures _ r.buffer_after;
+      few_left = r.few_left;
+    }

@@ -20,7 +20,12 @@ source_at-requires c = transition-there _ _ c.requires.good_table _ (omega arith
 pub visit_move-requires : goal.visit_move-requires
 visit_move-requires c =
     let p = c.requires in
-    let v = c.moves.invariant.2 in record { good_table = p.good_table; standing = v.grown.standing; i_lt_rows = (grown-there _ _ _ _ _ _ v.grown _ (omega arith), omega arith, omega arith, omega arith, omega arith) }
+    let v = c.moves.invariant.2 in
+    record {
+      good_table = p.good_table;
+      standing = v.grown.standing;
+      i_lt_rows = (grown-there _ _ _ _ _ _ v.grown _ (omega arith), omega arith, omega arith, omega arith, omega arith);
+    }
 
 pub moves-preserved-in-On : goal.moves-preserved-in-On
 moves-preserved-in-On c =

@@ -11,7 +11,12 @@ loop-i-init c =
 pub pass_row-requires : goal.pass_row-requires
 pass_row-requires c =
     let p = c.requires in
-    let v = c.loop-i.invariant.2 in record { good_table = p.good_table; standing = v.grown.standing; i_lt_rows = (omega arith, omega arith, omega arith, omega arith) }
+    let v = c.loop-i.invariant.2 in
+    record {
+      good_table = p.good_table;
+      standing = v.grown.standing;
+      i_lt_rows = (omega arith, omega arith, omega arith, omega arith);
+    }
 
 pub overflow_add-i : goal.overflow_add-i
 overflow_add-i c =

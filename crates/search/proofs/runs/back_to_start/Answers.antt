@@ -23,7 +23,12 @@ back_over-place-requires c =
     let v = c.loop-row.invariant.3 in
     let b = v.enough in
     let d = v.few in
-    let f = few_rows _ _ p.good_table.0 _ _ _ p.good_table.1 in record { good_table = (p.good_table.0, backing-move _ _ p.good_table.0 _ _ _ p.good_table.1 _ _ _ _ _ _ _ _ v (omega arith) (omega arith) _ c.move_of.ensures); needed = (needed-more _ _ _ _ v.needed (omega arith), omega arith, v.place); ends_len_bound = backing-room _ _ p.good_table.0 _ _ _ p.good_table.1 _ _ _ _ _ _ _ _ v (omega arith) (omega arith) _ c.move_of.ensures (omega arith) }
+    let f = few_rows _ _ p.good_table.0 _ _ _ p.good_table.1 in
+    record {
+      good_table = (p.good_table.0, backing-move _ _ p.good_table.0 _ _ _ p.good_table.1 _ _ _ _ _ _ _ _ v (omega arith) (omega arith) _ c.move_of.ensures);
+      needed = (needed-more _ _ _ _ v.needed (omega arith), omega arith, v.place);
+      ends_len_bound = backing-room _ _ p.good_table.0 _ _ _ p.good_table.1 _ _ _ _ _ _ _ _ v (omega arith) (omega arith) _ c.move_of.ensures (omega arith);
+    }
 
 pub parent_of-row-requires : goal.parent_of-row-requires
 parent_of-row-requires c =
@@ -52,4 +57,8 @@ loop-row-preserved c =
 pub returns : goal.returns
 returns c =
     let p = c.requires in
-    let v = c.loop-row.invariant.3 in record { words_after = backing-ends _ _ _ _ _ _ _ _ _ _ _ _ v (omega arith); upper_bound = (v.place, omega (arith, v.room_left)) }
+    let v = c.loop-row.invariant.3 in
+    record {
+      words_after = backing-ends _ _ _ _ _ _ _ _ _ _ _ _ v (omega arith);
+      upper_bound = (v.place, omega (arith, v.room_left));
+    }

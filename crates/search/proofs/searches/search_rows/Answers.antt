@@ -9,7 +9,13 @@ word-requires c =
     omega (arith, (ranges _ _ p.0).start, (ranges _ _ p.0).states)
 
 pub walk_rows-requires : goal.walk_rows-requires
-walk_rows-requires c = let p = c.requires in record { good_table = p.0; standing = start-stands _ _ p.0 _ p.1 _ _ _ c.word.ensures c.start_row.ensures; room_in_bounds = (omega arith, omega arith, omega arith) }
+walk_rows-requires c =
+    let p = c.requires in
+    record {
+      good_table = p.0;
+      standing = start-stands _ _ p.0 _ p.1 _ _ _ c.word.ensures c.start_row.ensures;
+      room_in_bounds = (omega arith, omega arith, omega arith);
+    }
 
 pub returns-in-Safe : goal.returns-in-Safe
 returns-in-Safe c =

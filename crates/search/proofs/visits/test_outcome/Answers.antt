@@ -11,7 +11,12 @@ returns-then-is_bad c =
     test-bad _ _ p.good_table _ _ _ p.standing _ _ _ _ _ (omega arith) (omega arith) p.j_value (sym c.if-is_bad.true ∙ c.is_bad.ensures)
 
 pub is_covered-requires : goal.is_covered-requires
-is_covered-requires c = let p = c.requires in record { sized = sized _ _ p.good_table _ _ _ p.standing; i_lt_rows = (omega arith, omega (arith, few_rows _ _ p.good_table _ _ _ p.standing), (ranges _ _ p.good_table).channels, omega arith) }
+is_covered-requires c =
+    let p = c.requires in
+    record {
+      sized = sized _ _ p.good_table _ _ _ p.standing;
+      i_lt_rows = (omega arith, omega (arith, few_rows _ _ p.good_table _ _ _ p.standing), (ranges _ _ p.good_table).channels, omega arith);
+    }
 
 pub returns-then-is_covered : goal.returns-then-is_covered
 returns-then-is_covered c =

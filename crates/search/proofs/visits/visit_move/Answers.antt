@@ -16,7 +16,14 @@ state_of-requires c =
     omega (arith, (sized _ _ p.good_table _ _ _ p.standing).there)
 
 pub outcome_into-requires : goal.outcome_into-requires
-outcome_into-requires c = let p = c.requires in record { sized = sized _ _ p.good_table _ _ _ p.standing; i_lt_rows = (omega arith, omega (arith, few_rows _ _ p.good_table _ _ _ p.standing), omega arith); ranged = transition-ranged _ _ p.good_table _ _ c.transition_at-m.ensures (omega arith); by_index = normals _ _ p.good_table _ _ _ p.standing _ (omega arith) }
+outcome_into-requires c =
+    let p = c.requires in
+    record {
+      sized = sized _ _ p.good_table _ _ _ p.standing;
+      i_lt_rows = (omega arith, omega (arith, few_rows _ _ p.good_table _ _ _ p.standing), omega arith);
+      ranged = transition-ranged _ _ p.good_table _ _ c.transition_at-m.ensures (omega arith);
+      by_index = normals _ _ p.good_table _ _ _ p.standing _ (omega arith);
+    }
 
 pub returns-in-Impossible : goal.returns-in-Impossible
 returns-in-Impossible c =
@@ -27,7 +34,13 @@ pub test_outcome-requires : goal.test_outcome-requires
 test_outcome-requires c =
     let p = c.requires in
     let u = c.transition_at-m.ensures in
-    let k = c.in-To.is in record { good_table = p.good_table; standing = p.standing; j_value = visit-comes _ _ p.good_table _ _ _ p.standing _ _ (omega arith) (omega arith) _ u (sym c.state_of.ensures ∙ c.if-state_of-m.true) _ _ c.outcome_into.ensures.buffer_after _ _ k; i_lt_rows = (omega arith, omega arith, transition-target _ _ p.good_table _ _ u (omega arith), omega arith, omega arith, omega (arith, few-changed _ _ _ k c.outcome_into.ensures.few_changed)) }
+    let k = c.in-To.is in
+    record {
+      good_table = p.good_table;
+      standing = p.standing;
+      j_value = visit-comes _ _ p.good_table _ _ _ p.standing _ _ (omega arith) (omega arith) _ u (sym c.state_of.ensures ∙ c.if-state_of-m.true) _ _ c.outcome_into.ensures.buffer_after _ _ k;
+      i_lt_rows = (omega arith, omega arith, transition-target _ _ p.good_table _ _ u (omega arith), omega arith, omega arith, omega (arith, few-changed _ _ _ k c.outcome_into.ensures.few_changed));
+    }
 
 pub returns-in-To : goal.returns-in-To
 returns-in-To c =

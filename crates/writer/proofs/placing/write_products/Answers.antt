@@ -9,7 +9,11 @@ pub loop-c-init : goal.loop-c-init
 loop-c-init c = placing-starts _ _ _ _ _ _ refl
 
 pub write_product-requires : goal.write_product-requires
-write_product-requires c = record { i_in_bounds = (omega arith, omega arith, omega (arith, c.requires.i_in_bounds.2.counts_fit c.loop-c.c (omega arith)), products-room _ _ _ c.loop-c.invariant (omega arith) (omega arith) _ c.count_of-count.ensures); count_value = c.count_of-count.ensures }
+write_product-requires c =
+    record {
+      i_in_bounds = (omega arith, omega arith, omega (arith, c.requires.i_in_bounds.2.counts_fit c.loop-c.c (omega arith)), products-room _ _ _ c.loop-c.invariant (omega arith) (omega arith) _ c.count_of-count.ensures);
+      count_value = c.count_of-count.ensures;
+    }
 
 pub overflow_mul-to : goal.overflow_mul-to
 overflow_mul-to c = omega (arith, c.requires.i_in_bounds.2.counts_fit c.loop-c.c (omega arith))

@@ -9,7 +9,11 @@ pub loop-i-init : goal.loop-i-init
 loop-i-init c = placing-starts _ _ _ _ _ _ refl
 
 pub write_row-at-requires : goal.write_row-at-requires
-write_row-at-requires c = record { i_in_bounds = (omega arith, omega arith, c.requires.all_writable.each _ (omega arith)); i_in_bounds_2 = rows-room _ _ c.loop-i.invariant c.requires.rows_in_bounds_2 (omega arith) }
+write_row-at-requires c =
+    record {
+      i_in_bounds = (omega arith, omega arith, c.requires.all_writable.each _ (omega arith));
+      i_in_bounds_2 = rows-room _ _ c.loop-i.invariant c.requires.rows_in_bounds_2 (omega arith);
+    }
 
 pub loop-i-preserved : goal.loop-i-preserved
 loop-i-preserved c = rows_on _ _ c.loop-i.invariant c.requires.rows_in_bounds_2 (omega arith) _ _ c.write_row-at.ensures.value c.write_row-at.ensures.list_after

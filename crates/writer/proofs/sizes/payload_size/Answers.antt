@@ -19,4 +19,8 @@ pub loop-c-preserved : goal.loop-c-preserved
 loop-c-preserved c = sizing-on c.loop-c.invariant c.requires.2 (omega arith) _ c.count_of.ensures
 
 pub returns : goal.returns
-returns c = record { value = sizing-ends c.loop-c.invariant (omega arith); upper_bound = sizing-few c.loop-c.invariant (omega arith) }
+returns c =
+    record {
+      value = sizing-ends c.loop-c.invariant (omega arith);
+      upper_bound = sizing-few c.loop-c.invariant (omega arith);
+    }
