@@ -1,11 +1,7 @@
 -- Where the search says safe, the judge accepts its rows; so the system is safe.
-use mathlib.Core.Path.{◌≡◌, refl, sym, ap, subst, ◌∙◌}
-use mathlib.Core.Bool.{true, false}
-use mathlib.Core.List.{List, map}
-use mathlib.Core.Option
-use mathlib.Core.Option.{Option, none, some, none-ne-some, some-injective}
-use Prim.Native.Nat.{ℕ, zero, suc, ◌≤◌}
-use native.Mathlib.Omega.{arith}
+use Rattle.std.proofs.Common.{◌≡◌, refl, sym, ap, subst, ◌∙◌, true, false, List, map, ℕ, zero, suc, ◌≤◌, arith}
+use Rattle.std.proofs.Math.Option
+use Rattle.std.proofs.Math.Option.{Option, none, some, none-ne-some, some-injective}
 use Rattle.common.specs.First.{is_in}
 use Rattle.common.proofs.AtLaws.{At, at-below, at_same, at_map, mem-at}
 use Rattle.common.proofs.BoolLaws.{clash}

@@ -1,15 +1,8 @@
 -- Which numbers are atoms: the test, and the atoms of one message.
-use mathlib.Core.Path.{◌≡◌, refl, sym, ap, subst, ◌∙◌}
-use mathlib.Core.Bool.{Bool, true, false, true≢false}
-use mathlib.Core.Logic.{◌⊎◌, inl, inr, ⊎_elim, ◌↔◌}
-use mathlib.Core.List.{List, [], ◌∷◌}
-use Prim.Native.Nat.{ℕ, ◌+◌, ◌-◌, ◌*◌, ◌/◌, ◌%◌, ◌^◌, ◌<◌, ◌≤◌}
-use native.Mathlib.Nat.{div-lt_iff_lt-mul, one-mul}
-use native.Mathlib.Omega.{arith}
+use Rattle.std.proofs.Common.{◌≡◌, refl, sym, ap, subst, ◌∙◌, Bool, true, false, true≢false, ◌⊎◌, inl, inr, ⊎_elim, ◌↔◌, List, [], ◌∷◌, ℕ, ◌+◌, ◌-◌, ◌*◌, ◌/◌, ◌%◌, ◌^◌, ◌<◌, ◌≤◌, div-lt_iff_lt-mul, one-mul, arith, eqb, ltb, eqb-true, eq-eqb, ltb-true, ltb-false}
 use lib.Bits.{bit_and, bit_or, and_mask, mask_lt, or_shifted}
-use lib.Dec.{eqb, ltb}
 use lib.Pow.{pow_mono, pow_pos, pow-lt, shl_exact}
-use borrow.Author.Tests.{eqb-true, eqb-false, eq-eqb, ltb-true, ltb-false}
+use borrow.Author.Tests.{eqb-false}
 use Rattle.common.specs.Choice.{if_true, if_eq}
 use Rattle.common.proofs.BoolLaws.{either, clash}
 use Rattle.common.proofs.ChoiceLaws.{true-then, true-else, true-cases, lt-then, lt-cases, eq-then, eq-else, eq-cases}

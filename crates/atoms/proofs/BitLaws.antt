@@ -1,15 +1,10 @@
 -- The bits of a number: of its half, of a power of two, of a masked and of a shifted number.
-use mathlib.Core.Path.{◌≡◌, refl, sym, ap, ◌∙◌}
-use mathlib.Core.Bool.{true, false, true≢false}
-use mathlib.Core.Logic.{◌⊎◌, inl, inr}
-use Prim.Native.Nat.{ℕ, zero, suc, ◌+◌, ◌-◌, ◌*◌, ◌/◌, ◌%◌, ◌^◌, ◌<◌, ◌≤◌, min}
-use native.Mathlib.Nat.{mod-lt, zero-lt-suc, min-le_right, div-one, div-div-eq-div-mul, pow-suc, pow-succ', div-eq_of_lt, mod_self}
-use native.Mathlib.Omega.{arith}
+use Rattle.std.proofs.Common.{◌≡◌, refl, sym, ap, ◌∙◌, true, false, true≢false, ◌⊎◌, inl, inr, ℕ, zero, suc, ◌+◌, ◌-◌, ◌*◌, ◌/◌, ◌%◌, ◌^◌, ◌<◌, ◌≤◌, min, mod-lt, zero-lt-suc, div-one, pow-suc, arith, eqb, eqb-true, eq-eqb, ne_eqb}
+use native.Mathlib.Nat.{min-le_right, div-div-eq-div-mul, pow-succ', div-eq_of_lt, mod_self}
 use lib.Arith.{bin_ind}
 use lib.Bits.{bit_and, and_mask, and_step, and_shr, and_self, and_comm, and_zero_r}
-use lib.Dec.{eqb}
 use lib.Pow.{pow_mono, field, mod-mod-pow, shr-shr}
-use borrow.Author.Tests.{eqb-true, eqb-false, eq-eqb, ne_eqb}
+use borrow.Author.Tests.{eqb-false}
 use Rattle.common.proofs.BoolLaws.{either, clash}
 use Rattle.atoms.specs.Masks.{bit, sub}
 

@@ -1,12 +1,7 @@
 -- The cases worked by hand, as one table under one theorem: each says what the definitions answer and what words are meant.
-use mathlib.Core.Path.{◌≡◌, refl, sym, ap, ap₂}
-use mathlib.Core.Bool.{Bool, true, false, ◌&&◌, not, true≢false}
-use mathlib.Core.Logic.{◌↔◌}
-use mathlib.Core.List.{List, [], ◌∷◌}
+use Rattle.std.proofs.Common.{◌≡◌, refl, sym, ap, ap₂, Bool, true, false, ◌&&◌, not, true≢false, ◌↔◌, List, [], ◌∷◌, ℕ, ◌+◌, ◌^◌, eqb, eqb-true}
 use mathlib.Core.Option.{Option, none, some}
-use Prim.Native.Nat.{ℕ, ◌+◌, ◌^◌}
-use lib.Dec.{eqb}
-use borrow.Author.Tests.{eqb-true, not-true}
+use borrow.Author.Tests.{not-true}
 use Rattle.common.specs.Choice.{if_true, if_lt, if_eq}
 use Rattle.common.specs.Each.{Each}
 use Rattle.common.proofs.BoolLaws.{clash, and-true}

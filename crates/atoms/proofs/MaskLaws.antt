@@ -1,12 +1,7 @@
 -- Masks and the sets they mean: message, star flag and subset as masks are those of the sets.
-use mathlib.Core.Path.{◌≡◌, sym, ap, subst, ◌∙◌}
-use mathlib.Core.Bool.{Bool, true, false, not}
-use mathlib.Core.Logic.{◌⊎◌, inl, inr, ⊎_elim, ◌↔◌}
-use Prim.Native.Nat.{ℕ, ◌/◌, ◌%◌, ◌*◌, ◌^◌, ◌<◌}
-use native.Mathlib.Omega.{arith}
+use Rattle.std.proofs.Common.{◌≡◌, sym, ap, subst, ◌∙◌, Bool, true, false, not, ◌⊎◌, inl, inr, ⊎_elim, ◌↔◌, ℕ, ◌/◌, ◌%◌, ◌*◌, ◌^◌, ◌<◌, arith, eqb, ltb, eqb-true, eq-eqb, ne_eqb, ltb-true, ltb-false, lt-ltb}
 use lib.Bits.{bit_and, and_mask, and_high}
-use lib.Dec.{eqb, ltb}
-use borrow.Author.Tests.{eqb-true, eqb-false, eq-eqb, ne_eqb, ltb-true, ltb-false, lt-ltb}
+use borrow.Author.Tests.{eqb-false}
 use Rattle.common.proofs.BoolLaws.{either, clash, and-true}
 use Rattle.meaning.proofs.ContainmentLaws.{Below, Beyond, lacks, starless}
 use Rattle.atoms.specs.Masks.{bit, star, has, meant, sub, absorbs, IsAtom}

@@ -1,10 +1,6 @@
 -- Whether a word is one of a product can be told: message by message, by what a receive leaves.
-use mathlib.Core.Path.{◌≡◌, refl, sym}
-use mathlib.Core.Bool.{Bool, true, false, true≢false}
-use mathlib.Core.Logic.{◌↔◌, ◌⊎◌, inl, inr}
-use mathlib.Core.List.{List, [], ◌∷◌}
+use Rattle.std.proofs.Common.{◌≡◌, refl, sym, Bool, true, false, true≢false, ◌↔◌, ◌⊎◌, inl, inr, List, [], ◌∷◌, ℕ}
 use mathlib.Core.Option.{Option, none, some}
-use Prim.Native.Nat.{ℕ}
 use Rattle.common.proofs.BoolLaws.{either, clash}
 use Rattle.meaning.specs.Words.{Word}
 use Rattle.meaning.proofs.ProductLaws.{product-nil}

@@ -1,9 +1,5 @@
 -- The normal form: removals keep the words, end in one product whatever their order, and that product is fixed by the words.
-use mathlib.Core.Path.{◌≡◌, refl, sym, ap₂, subst}
-use mathlib.Core.Bool.{true, false}
-use mathlib.Core.Logic.{◌⊎◌, inl, inr, ⊎_elim, ◌↔◌}
-use mathlib.Core.List.{List, [], ◌∷◌}
-use Prim.Native.Nat.{ℕ}
+use Rattle.std.proofs.Common.{◌≡◌, refl, sym, ap₂, subst, true, false, ◌⊎◌, inl, inr, ⊎_elim, ◌↔◌, List, [], ◌∷◌, ℕ}
 use Rattle.common.specs.Each.{Each}
 use Rattle.common.proofs.BoolLaws.{either, clash}
 use Rattle.common.proofs.ChoiceLaws.{true-then, true-else}

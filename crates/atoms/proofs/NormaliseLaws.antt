@@ -1,10 +1,5 @@
 -- The loop that brings a product to normal form, atom by atom.
-use mathlib.Core.Path.{◌≡◌, refl, sym, ap, subst, ◌∙◌}
-use mathlib.Core.List.{List, [], ◌∷◌, ◌++◌}
-use Prim.Native.Nat.{ℕ, ◌+◌, ◌-◌, ◌<◌, ◌≤◌}
-use native.Mathlib.Omega.{arith}
-use native.Mathlib.Nat.{add-zero}
-use lib.ListN.{length, get_or, take, drop}
+use Rattle.std.proofs.Common.{◌≡◌, refl, sym, ap, subst, ◌∙◌, List, [], ◌∷◌, ◌++◌, ℕ, ◌+◌, ◌-◌, ◌<◌, ◌≤◌, arith, add-zero, length, get_or, take, drop}
 use lib.Seq.{take-take, drop-drop, get_or-drop}
 use Rattle.common.specs.Part.{part}
 use Rattle.common.proofs.PartLaws.{part_none, part-snoc, part-take}

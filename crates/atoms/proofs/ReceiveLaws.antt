@@ -1,16 +1,13 @@
 -- The product after a receive means exactly the words that a receive leaves.
-use mathlib.Core.Path.{◌≡◌, refl, subst}
-use mathlib.Core.Bool.{true, false}
-use mathlib.Core.Logic.{◌⊎◌, inl, inr, ◌↔◌}
-use mathlib.Core.List.{List, [], ◌∷◌}
+use Rattle.std.proofs.Common.{◌≡◌, refl, sym, ap, subst, ◌∙◌, true, false, ◌⊎◌, inl, inr, ◌↔◌, List, [], ◌∷◌, ℕ, zero, suc, ◌+◌, ◌-◌, ◌<◌, ◌≤◌, arith, length, get_or, drop}
 use mathlib.Core.Option.{Option, none, some}
-use Prim.Native.Nat.{ℕ, ◌+◌, ◌<◌, ◌≤◌}
-use lib.ListN.{length, get_or}
-use Rattle.common.specs.Part.{part}
+use native.Mathlib.Numerals.{add-one}
+use Rattle.std.specs.List.{between}
+use Rattle.std.proofs.Math.Nat.{sub_self}
+use Rattle.std.proofs.lemmas.Slice.{between_to_end}
 use Rattle.common.specs.Each.{Each}
 use Rattle.common.proofs.BoolLaws.{either}
 use Rattle.common.proofs.ChoiceLaws.{true-then, true-else}
-use Rattle.common.proofs.PartLaws.{part_none, part-cons}
 use Rattle.meaning.specs.Words.{Word}
 use Rattle.meaning.proofs.ProductLaws.{product-nil, product-skip, product-tail}
 use Rattle.meaning.proofs.HeadLaws.{no-message, head-lacks, head-single, head-one, head-star}
@@ -93,18 +90,46 @@ received-each P (at_star x y) h = h
 received-each P (at_single x y) h = h.1
 received-each P (past x v) h = received-each P v h.1
 
--- ---- the steps over a range, as the code takes them: from place i on it is as from the first place
+-- ---- the first atom that has m, as the code finds it
 
-module _ (m from to i : ℕ) (p : List ℕ) (same : received m (part i to p) ≡ received m (part from to p)) where
-  pub range-impossible : to ≤ i → none ≡ received m (part from to p)
-  range-impossible h = subst (none ≡◌) same (rw (part_none i to p h) (receive-none m))
+-- None has it.
+pub received-nowhere : (m : ℕ) (p : List ℕ) → ((k : ℕ) → k < length p → has (get_or p k 0) m ≡ false) → received m p ≡ none
+received-nowhere m [] f = sym (receive-none m)
+received-nowhere m (a ∷ p) f = sym (receive-past m a p (f 0 (omega arith))) ∙ received-nowhere m p (λ k h. f (suc k) (omega arith))
 
-  module _ (h : i < to) (l : to ≤ length p) where
-    pub range-past : has (get_or p i 0) m ≡ false → received m (part (i + 1) to p) ≡ received m (part from to p)
-    range-past x = subst (received m (part (i + 1) to p) ≡◌) same (rw (part-cons i to p h l) (receive-past m _ _ x))
+-- The one at place n has it, and none before it.
+pub record IsAt (m : ℕ) (p : List ℕ) (n : ℕ) : Type 0 where
+  pub inside : n < length p
+  pub there : has (get_or p n 0) m ≡ true
+  pub before : (k : ℕ) → k < n → has (get_or p k 0) m ≡ false
 
-    pub range-star : has (get_or p i 0) m ≡ true → star (get_or p i 0) ≡ true → some (part i to p) ≡ received m (part from to p)
-    range-star x y = subst (some (part i to p) ≡◌) same (rw (part-cons i to p h l) (receive-star m _ _ x y))
+at-rest : {m a : ℕ} {p : List ℕ} {n : ℕ} → IsAt m (a ∷ p) (suc n) → IsAt m p n
+at-rest f = record { inside = omega (arith, f.inside); there = f.there; before = λ k h. f.before (suc k) (omega arith) }
 
-    pub range-single : has (get_or p i 0) m ≡ true → star (get_or p i 0) ≡ false → some (part (i + 1) to p) ≡ received m (part from to p)
-    range-single x y = subst (some (part (i + 1) to p) ≡◌) same (rw (part-cons i to p h l) (receive-single m _ _ x y))
+received-star : (m : ℕ) (p : List ℕ) (n : ℕ) → IsAt m p n → star (get_or p n 0) ≡ true → received m p ≡ some (drop n p)
+received-star m [] n f y = absurd (omega (arith, f.inside))
+received-star m (a ∷ p) zero f y = sym (receive-star m a p f.there y)
+received-star m (a ∷ p) (suc n) f y = sym (receive-past m a p (f.before 0 (omega arith))) ∙ received-star m p n (at-rest f) y
+
+received-single : (m : ℕ) (p : List ℕ) (n : ℕ) → IsAt m p n → star (get_or p n 0) ≡ false → received m p ≡ some (drop (suc n) p)
+received-single m [] n f y = absurd (omega (arith, f.inside))
+received-single m (a ∷ p) zero f y = sym (receive-single m a p f.there y)
+received-single m (a ∷ p) (suc n) f y = sym (receive-past m a p (f.before 0 (omega arith))) ∙ received-single m p n (at-rest f) y
+
+-- What is left, as `&p[n..]` and `&p[n + 1..]` read it.
+pub rest-here : (m : ℕ) (p : List ℕ) (n : ℕ) → IsAt m p n → star (get_or p n 0) ≡ true → received m p ≡ some (between n (length p) p)
+rest-here m p n f y = received-star m p n f y ∙ ap some (sym (between_to_end p n (length p) (omega arith)))
+
+pub rest-next : (m : ℕ) (p : List ℕ) (n : ℕ) → IsAt m p n → star (get_or p n 0) ≡ false → received m p ≡ some (between (n + 1) (length p) p)
+rest-next m p n f y = received-single m p n f y ∙ ap some (rw add-one (sym (between_to_end p (suc n) (length p) (omega arith))))
+
+-- ---- what is left is the end of the product
+
+ends-with : {m : ℕ} {p q : List ℕ} → Received m p (some q) → (length q ≤ length p) × (drop (length p - length q) p ≡ q)
+ends-with (at_star {p = p} x y) = (omega arith, rw sub_self refl)
+ends-with (at_single {p = p} x y) = (omega arith, let e : suc (length p) - length p ≡ suc 0 = omega arith in rw e refl)
+ends-with {q = q} (past {p = p} x v) = let ih = ends-with v in
+    (omega (arith, ih.0), let e : suc (length p) - length q ≡ suc (length p - length q) = omega (arith, ih.0) in rw e ih.1)
+
+pub received-end : (m : ℕ) (p : List ℕ) {q : List ℕ} → received m p ≡ some q → (length q ≤ length p) × (drop (length p - length q) p ≡ q)
+received-end m p e = ends-with (subst (Received m p) e (receiving m p))

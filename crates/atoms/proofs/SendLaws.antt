@@ -1,8 +1,6 @@
 -- A send adds the single of its message, a self-loop send the star of it: what words that means.
-use mathlib.Core.Logic.{◌↔◌}
-use mathlib.Core.List.{List, [], ◌∷◌, ◌++◌, map-append}
-use Prim.Native.Nat.{ℕ, ◌<◌}
-use lib.ListN.{replicate}
+use Rattle.std.proofs.Common.{◌↔◌, List, [], ◌∷◌, ◌++◌, ℕ, ◌<◌, replicate}
+use mathlib.Core.List.{map-append}
 use Rattle.meaning.specs.Words.{Word, ◌⪯◌}
 use Rattle.meaning.proofs.SendLaws.{send-words, rounds-words}
 use Rattle.atoms.specs.Masks.{meant, single_of, star_of}

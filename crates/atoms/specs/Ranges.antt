@@ -1,21 +1,8 @@
 -- What the functions over ranges of lent words answer and leave.
 use Rattle.std.specs.Prelude.{◌≡◌, List, [], ◌∷◌, ◌++◌, false, ℕ, ◌+◌, ◌-◌, ◌<◌, ◌≤◌, get_or, drop}
-use Rattle.std.proofs.Math.Option.{Option, none, some}
 use Rattle.common.specs.Part.{part}
 use Rattle.atoms.specs.Masks.{absorbs}
 use Rattle.atoms.specs.Normal.{normal}
-use Rattle.atoms.specs.declared.products.Left.{Left}
-use Rattle.atoms.specs.declared.products.Left.TheVariants.{From, Impossible}
-
--- A receive: the atoms from the place up to `to`, or none.
-abbrev pub left_of : Left → ℕ → List ℕ → Option (List ℕ)
-left_of (From i) to p = some (part i to p)
-left_of Impossible to p = none
-
--- The place lies in the range.
-abbrev pub Within : Left → ℕ → ℕ → Type 0
-Within (From i) from to = (from ≤ i) × (i ≤ to)
-Within Impossible from to = Unit {0}
 
 -- Before an atom x that comes behind the first n, r of them stay: the normal form is the same, and x does not absorb the last that stays.
 pub record KeptBefore (p : List ℕ) (n x r : ℕ) : Type 0 where

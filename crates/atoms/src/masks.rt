@@ -1,5 +1,6 @@
 // Atoms as masks in a u16: bit 15 marks a star, bits 0 to 14 are messages.
 ghost use Rattle.std.specs.Prelude.{◌≡◌, ◌<◌, ◌≤◌};
+ghost use Rattle.std.specs.List.{list_all};
 ghost use Rattle.atoms.specs.Masks.{star, has, sub, absorbs, atom_test, single_of, star_of};
 
 // The atom is a star.
@@ -28,10 +29,7 @@ pub fn within(a: u16, b: u16) -> bool
 pub fn is_absorbed(a: u16, b: u16) -> bool
     ensures { result ≡ absorbs b a }
 {
-    if is_star(b) {
-        return within(a, b);
-    }
-    false
+    is_star(b) && within(a, b)
 }
 
 // a is an atom of a table with n messages.
@@ -40,16 +38,18 @@ pub fn is_atom(a: u16, n: usize) -> bool
     ensures { result ≡ atom_test n a }
 {
     let s = a & 32767;
-    if s == 0 {
+    if s == 0 || s >> n != 0 {
         return false;
     }
-    if s >> n != 0 {
-        return false;
-    }
-    if is_star(a) {
-        return true;
-    }
-    s & (s - 1) == 0
+    is_star(a) || s & (s - 1) == 0
+}
+
+// Each word is an atom of a table with n messages.
+pub fn all_atoms(p: &[u16], n: usize) -> bool
+    requires { n ≤ 15 }
+    ensures { result ≡ list_all (atom_test n) p.now }
+{
+    p.iter().all(|a| is_atom(*a, n))
 }
 
 // The single of m.

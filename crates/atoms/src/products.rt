@@ -1,61 +1,45 @@
-// Products as ranges of lent words.
-ghost use Rattle.std.specs.Prelude.{◌≡◌, ◌<◌, ◌≤◌, length};
+// Products as slices of lent words.
+ghost use Rattle.std.specs.Prelude.{◌≡◌, ◌<◌, ◌≤◌, length, MatchOption};
+ghost use Rattle.std.proofs.Math.Option.{none, some};
 ghost use Rattle.common.specs.Part.{part};
 ghost use Rattle.atoms.specs.Contained.{contained};
 ghost use Rattle.atoms.specs.Receive.{received};
-ghost use Rattle.atoms.specs.Ranges.{left_of, Within, KeptBefore, Added, Normalised};
+ghost use Rattle.atoms.specs.Ranges.{KeptBefore, Added, Normalised};
 ghost use Rattle.atoms.specs.Masks.{Atoms};
 ghost use Rattle.atoms.specs.Normal.{normal};
 
 use crate::masks::{has_message, is_absorbed, is_star, within};
 
-// Every word of the atoms of p from pa up to pe is a word of those of q from qa up to qe. Each step drops the head of one or the other,
-// or both.
-pub fn contained_at(p: &[u16], pa: usize, pe: usize, q: &[u16], qa: usize, qe: usize) -> bool
-    requires { (pa ≤ pe) × (pe ≤ length p.now) × (qa ≤ qe) × (qe ≤ length q.now) }
-    ensures { result ≡ contained (part pa pe p.now) (part qa qe q.now) }
+// Every word of p is a word of q. Each step drops the head of one or the other, or both.
+pub fn contained(p: &[u16], q: &[u16]) -> bool
+    ensures { result ≡ contained p.now q.now }
 {
-    if pa == pe {
+    let [a, p_rest @ ..] = p else {
         return true;
-    }
-    if qa == qe {
+    };
+    let [b, q_rest @ ..] = q else {
         return false;
-    }
-    let b = q[qa];
-    if within(p[pa], b) {
-        if is_star(b) {
-            return contained_at(p, pa + 1, pe, q, qa, qe);
+    };
+    if within(*a, *b) {
+        if is_star(*b) {
+            return contained(p_rest, q);
         }
-        return contained_at(p, pa + 1, pe, q, qa + 1, qe);
+        return contained(p_rest, q_rest);
     }
-    contained_at(p, pa, pe, q, qa + 1, qe)
+    contained(p, q_rest)
 }
 
-// What is left of a product after a receive: the atoms from a place on, or the receive is impossible.
-#[derive(Clone, Copy)]
-pub enum Left {
-    From(usize),
-    Impossible,
-}
-
-// The atoms of p from `from` up to `to` after a receive of m: from the first that has m, past it if it is single.
-pub fn receive_at(p: &[u16], from: usize, to: usize, m: usize) -> Left
-    requires { (from ≤ to) × (to ≤ length p.now) × (m < 15) }
-    ensures p_value { left_of result to p.now ≡ received m (part from to p.now) }
-    ensures within { Within result from to }
+// What is left of p after a receive of m: from the first atom that has m, past it if it is single. None where the receive is impossible.
+pub fn received(p: &[u16], m: usize) -> Option<&[u16]>
+    requires { m < 15 }
+    ensures what_is_left { MatchOption result (received m p.now ≡ none) (λ left. received m p.now ≡ some left.now) }
+    ensures no_longer { MatchOption result (Unit {0}) (λ left. length left.now ≤ length p.now) }
 {
-    let mut i = from;
-    while i < to {
-        let a = p[i];
-        if has_message(a, m) {
-            if is_star(a) {
-                return Left::From(i);
-            }
-            return Left::From(i + 1);
-        }
-        i += 1;
+    let first = p.iter().position(|a| has_message(*a, m))?;
+    if is_star(p[first]) {
+        return Some(&p[first..]);
     }
-    Left::Impossible
+    Some(&p[first + 1..])
 }
 
 // How many of the first n atoms stay in front of x: those at the end that x absorbs go.
@@ -63,13 +47,9 @@ fn kept_before(p: &[u16], n: usize, x: u16) -> usize
     requires { n ≤ length p.now }
     ensures { KeptBefore p.now n x result }
 {
-    let mut k = n;
-    while 0 < k {
-        let last = k - 1;
-        if is_absorbed(p[last], x) {
-            k = last;
-        } else {
-            return k;
+    for last in (0..n).rev() {
+        if !is_absorbed(p[last], x) {
+            return last + 1;
         }
     }
     0
@@ -86,8 +66,7 @@ pub fn add_atom(p: &mut [u16], n: usize, x: u16) -> usize
         p[0] = x;
         return 1;
     }
-    let last = k - 1;
-    if is_absorbed(x, p[last]) {
+    if is_absorbed(x, p[k - 1]) {
         return k;
     }
     p[k] = x;
@@ -101,11 +80,9 @@ pub fn normalise(p: &mut [u16], n: usize) -> usize
     ensures { Normalised p.old n p.new result }
 {
     let mut k = 0;
-    let mut i = 0;
-    while i < n {
+    for i in 0..n {
         let x = p[i];
         k = add_atom(p, k, x);
-        i += 1;
     }
     k
 }

@@ -1,14 +1,7 @@
 -- Going back over a move, in local memory.
-use mathlib.Core.Path.{◌≡◌, refl, sym, ap, subst, ◌∙◌}
-use mathlib.Core.Bool.{Bool, true, false}
-use mathlib.Core.Logic.{◌⊎◌, inl, inr}
-use mathlib.Core.List.{List, [], ◌∷◌, ◌++◌}
-use mathlib.Core.Option.{Option, none, some}
-use Prim.Native.Nat.{ℕ, suc, ◌+◌, ◌-◌, ◌<◌, ◌≤◌}
-use native.Mathlib.Omega.{arith}
-use lib.ListN.{length, replicate, length-append, length-replicate}
-use Rattle.common.specs.Part.{part}
-use borrow.Author.Tests.{eq-eqb, ne_eqb}
+use Rattle.std.proofs.Common.{◌≡◌, refl, sym, ap, subst, ◌∙◌, Bool, true, false, ◌⊎◌, inl, inr, List, [], ◌∷◌, ◌++◌, ℕ, suc, ◌+◌, ◌-◌, ◌<◌, ◌≤◌, arith, length, replicate, length-append, eq-eqb, ne_eqb}
+use Rattle.std.proofs.Math.Option.{Option, none, some}
+use Rattle.std.proofs.Math.ListN.{length-replicate}
 use Rattle.common.proofs.BoolLaws.{either}
 use Rattle.common.proofs.ChoiceLaws.{true-then, true-else}
 use Rattle.meaning.specs.Words.{Word}
@@ -23,16 +16,17 @@ use Rattle.table.specs.declared.transitions.Operation.TheVariants.{Quiet, Send, 
 use Rattle.table.specs.declared.transitions.Transition.{Transition}
 use Rattle.table.proofs.GoodLaws.{few-transitions}
 use Rattle.table.proofs.SystemLaws.{move-at, transition-ranged}
-use Rattle.channels.specs.Contents.{contents_in}
 use Rattle.findings.specs.Rebuild.{Back, back, back_over, ends_with, all_but_last, stripped}
 use Rattle.findings.proofs.EndLaws.{ends_last, strip-whole, strip-snoc, strip-none}
-use Rattle.back.specs.Needs.{Needed, PutFront, DropLast, Pushed, Went}
+use Rattle.back.specs.declared.needs.Needs.{Needs}
+use Rattle.back.specs.declared.tails.Tail.{Tail}
+use Rattle.back.specs.Needs.{needed, Needed, PutFront, DropLast, standing, Pushed, Went}
 
-pub needed-more : (n k : ℕ) (s e : List ℕ) → Needed n s e → n ≤ k → Needed k s e
-needed-more n k s e q h =
-    record { room = q.room; pairs = q.pairs; order = q.order; high = q.high; low = λ c l. let r = q.low c l in omega arith }
+pub needed-more : (n k : ℕ) (q : Needs) → Needed n q → n ≤ k → Needed k q
+needed-more n k q u h =
+    record { room = u.room; pairs = u.pairs; order = u.order; high = u.high; low = λ c l. let r = u.low c l in omega arith }
 
--- ---- a self-loop send: up to here, the ends are d and the words v stand from place p on
+-- ---- a self-loop send: up to here, the needs are d and the words stand in v
 
 strip-fewer : (m : ℕ) (w : Word) → length (stripped m w) ≤ length w
 strip-fewer m w =
@@ -40,101 +34,101 @@ strip-fewer m w =
     let a : length w ≡ length (stripped m w) + length (replicate d m) = ap length (strip-whole m w) ∙ length-append (stripped m w) (replicate d m) in
     omega arith
 
-module _ (c m x : ℕ) (s e w : List ℕ) (a : ℕ) where
+module _ (c m x : ℕ) (q : Needs) (w : Tail) where
   abbrev f : Word
-  f = contents_in s e c
+  f = needed q c
 
-  pub record Stripping (d v : List ℕ) (p : ℕ) : Type 0 where
-    pub keeps : (n : ℕ) → Needed n s e → Needed n s d
-    pub same : stripped m (contents_in s d c) ≡ stripped m f
-    pub only : contents_in s d ≡ put (contents_in s e) c (contents_in s d c)
-    pub fewer : length (contents_in s d c) ≤ length f
-    pub place : p + (length f - length (contents_in s d c)) ≡ a
-    pub words : part p 2048 v ≡ replicate (length f - length (contents_in s d c)) x ++ part a 2048 w
+  pub record Stripping (d : Needs) (v : Tail) : Type 0 where
+    pub keeps : (n : ℕ) → Needed n q → Needed n d
+    pub same : stripped m (needed d c) ≡ stripped m f
+    pub only : needed d ≡ put (needed q) c (needed d c)
+    pub fewer : length (needed d c) ≤ length f
+    pub place : v.at + (length f - length (needed d c)) ≡ w.at
+    pub words : standing v ≡ replicate (length f - length (needed d c)) x ++ standing w
 
-  pub stripping-starts : Stripping e w a
+  pub stripping-starts : Stripping q w
   stripping-starts =
       let z : length f - length f ≡ 0 = omega arith in
-      record { keeps = λ n q. q; same = refl; only = sym (put_id (contents_in s e) c); fewer = omega arith; place = omega arith; words = rw z }
+      record { keeps = λ n u. u; same = refl; only = sym (put_id (needed q) c); fewer = omega arith; place = omega arith; words = rw z }
 
-  module _ (d v : List ℕ) (p : ℕ) (k : Stripping d v p) where
+  module _ (d : Needs) (v : Tail) (k : Stripping d v) where
     abbrev g : Word
-    g = contents_in s d c
+    g = needed d c
 
     -- The word ends in m: there is one less.
-    module _ (d' : List ℕ) (b : Bool) (t : b ≡ true) (l : DropLast c m s d d' b) where
+    module _ (d' : Needs) (b : Bool) (t : b ≡ true) (l : DropLast c m d d' b) where
       ended : g ≡ all_but_last g ++ (m ∷ [])
       ended = ends_last m g (sym l.stood ∙ t)
 
       less : length g ≡ length (all_but_last g) + 1
       less = ap length ended ∙ length-append (all_but_last g) (m ∷ [])
 
-      left : contents_in s d' ≡ put (contents_in s d) c (all_but_last g)
+      left : needed d' ≡ put (needed d) c (all_but_last g)
       left = l.left ∙ sym (true-then _ _ _ t refl)
 
-      there : contents_in s d' c ≡ all_but_last g
-      there = ap (λ (h : Contents). h c) left ∙ put_same (contents_in s d) c (all_but_last g)
+      there : needed d' c ≡ all_but_last g
+      there = ap (λ (h : Contents). h c) left ∙ put_same (needed d) c (all_but_last g)
 
       same-strip : stripped m (all_but_last g) ≡ stripped m f
       same-strip = sym (strip-snoc m (all_but_last g)) ∙ ap (stripped m) (sym ended) ∙ k.same
 
-      pub stripping-room : length f - length (stripped m f) ≤ a → 0 < p
+      pub stripping-room : length f - length (stripped m f) ≤ w.at → 0 < v.at
       stripping-room h =
           let i = strip-fewer m (all_but_last g) in
           let j : length (stripped m (all_but_last g)) ≡ length (stripped m f) = ap length same-strip in
           omega (arith, less, k.place, k.fewer)
 
-      pub stripping-on : (v' : List ℕ) (p' : ℕ) → Pushed x v p v' p' → Stripping d' v' p'
-      stripping-on v' p' u =
-          let n : length f - length (contents_in s d' c) ≡ suc (length f - length g) = omega (arith, ap length there, less, k.fewer) in
+      pub stripping-on : (v' : Tail) → Pushed x v v' → Stripping d' v'
+      stripping-on v' u =
+          let n : length f - length (needed d' c) ≡ suc (length f - length g) = omega (arith, ap length there, less, k.fewer) in
           record {
             keeps = λ n q. l.keeps n (k.keeps n q);
             same = ap (stripped m) there ∙ same-strip;
             only =
-                left ∙ ap (λ (h : Contents). put h c (all_but_last g)) k.only ∙ put-put (contents_in s e) c g (all_but_last g)
-                ∙ ap (put (contents_in s e) c) (sym there);
+                left ∙ ap (λ (h : Contents). put h c (all_but_last g)) k.only ∙ put-put (needed q) c g (all_but_last g)
+                ∙ ap (put (needed q) c) (sym there);
             fewer = omega (arith, ap length there, less, k.fewer);
             place = omega (arith, n, k.place, u.place);
-            words = u.words ∙ ap (x ∷◌) k.words ∙ ap (λ (i : ℕ). replicate i x ++ part a 2048 w) (sym n);
+            words = u.words ∙ ap (x ∷◌) k.words ∙ ap (λ (i : ℕ). replicate i x ++ standing w) (sym n);
           }
 
     -- It does not: what is left is stripped.
-    pub stripping-ends : (d' : List ℕ) (b : Bool) → b ≡ false → DropLast c m s d d' b → Went (back true (send c m) x (contents_in s e)) s e w a s d' v p
+    pub stripping-ends : (d' : Needs) (b : Bool) → b ≡ false → DropLast c m d d' b → Went (back true (send c m) x (needed q)) q w d' v
     unfolding back
     stripping-ends d' b t l =
         let z : g ≡ stripped m f = sym (strip-none m g (sym l.stood ∙ t)) ∙ k.same in
         record {
-          words = k.words ∙ ap (λ (y : Word). replicate (length f - length y) x ++ part a 2048 w) z;
+          words = k.words ∙ ap (λ (y : Word). replicate (length f - length y) x ++ standing w) z;
           place = omega (arith, k.place);
-          before = l.left ∙ sym (true-else _ _ _ t refl) ∙ k.only ∙ ap (put (contents_in s e) c) z;
-          keeps = λ n q. needed-more n (n + 1) s d' (l.keeps n (k.keeps n q)) (omega arith);
+          before = l.left ∙ sym (true-else _ _ _ t refl) ∙ k.only ∙ ap (put (needed q) c) z;
+          keeps = λ n q. needed-more n (n + 1) d' (l.keeps n (k.keeps n q)) (omega arith);
         }
 
 -- ---- a send that is no self-loop
 
-module _ (c m j : ℕ) (s e : List ℕ) (b : Bool) (d : List ℕ) (l : DropLast c m s e d b) (w : List ℕ) (a : ℕ) (v : List ℕ) (p y : ℕ) (u : Pushed y w a v p) where
-  keeps-more : (n : ℕ) → Needed n s e → Needed (n + 1) s d
-  keeps-more n q = needed-more n (n + 1) s d (l.keeps n q) (omega arith)
+module _ (c m j : ℕ) (q : Needs) (b : Bool) (d : Needs) (l : DropLast c m q d b) (w v : Tail) (y : ℕ) (u : Pushed y w v) where
+  keeps-more : (n : ℕ) → Needed n q → Needed (n + 1) d
+  keeps-more n k = needed-more n (n + 1) d (l.keeps n k) (omega arith)
 
   -- Kept.
-  pub send-kept : b ≡ true → y ≡ j → Went (back false (send c m) j (contents_in s e)) s e w a s d v p
+  pub send-kept : b ≡ true → y ≡ j → Went (back false (send c m) j (needed q)) q w d v
   unfolding back
   send-kept t z =
-      subst (λ (x : Back). Went x s e w a s d v p) (true-then _ _ _ (sym l.stood ∙ t) refl)
+      subst (λ (x : Back). Went x q w d v) (true-then _ _ _ (sym l.stood ∙ t) refl)
       (record {
-        words = u.words ∙ ap (λ (x : ℕ). x ∷ part a 2048 w) z;
+        words = u.words ∙ ap (λ (x : ℕ). x ∷ standing w) z;
         place = omega (arith, u.place);
         before = l.left ∙ sym (true-then _ _ _ t refl);
         keeps = keeps-more;
       })
 
   -- Lost.
-  pub send-lost : b ≡ false → y ≡ j + 32768 → Went (back false (send c m) j (contents_in s e)) s e w a s d v p
+  pub send-lost : b ≡ false → y ≡ j + 32768 → Went (back false (send c m) j (needed q)) q w d v
   unfolding back
   send-lost t z =
-      subst (λ (x : Back). Went x s e w a s d v p) (true-else _ _ _ (sym l.stood ∙ t) refl)
+      subst (λ (x : Back). Went x q w d v) (true-else _ _ _ (sym l.stood ∙ t) refl)
       (record {
-        words = u.words ∙ ap (λ (x : ℕ). x ∷ part a 2048 w) z;
+        words = u.words ∙ ap (λ (x : ℕ). x ∷ standing w) z;
         place = omega (arith, u.place);
         before = l.left ∙ sym (true-else _ _ _ t refl);
         keeps = keeps-more;
@@ -172,64 +166,60 @@ module _ (t : List ℕ) (h : Shape) (g : GoodTable t h) (j : ℕ) (u : Transitio
   pub receives-in : (c m : ℕ) → u.operation ≡ Receive c m → (c < 4) × (m < 15)
   receives-in c m z = subst (λ (x : Operation). Ranged 4 15 (operation_of x)) z (transition-ranged t h g j u e l)
 
-  module _ (s d : List ℕ) (a : ℕ) (few : length (back_over (system_of t) j (contents_in s d)).words ≤ a) where
-    abbrev needed : Contents
-    needed = contents_in s d
-
+  module _ (q : Needs) (w : Tail) (few : length (back_over (system_of t) j (needed q)).words ≤ w.at) where
     -- There is room for its words.
-    pub quiet-room : u.operation ≡ Quiet → 0 < a
+    pub quiet-room : u.operation ≡ Quiet → 0 < w.at
     unfolding back
-    quiet-room z = let n : length (back_over (system_of t) j needed).words ≡ 1 = ap (λ (b : Back). length b.words) (over_by Quiet z needed) in omega arith
+    quiet-room z = let n : length (back_over (system_of t) j (needed q)).words ≡ 1 = ap (λ (b : Back). length b.words) (over_by Quiet z (needed q)) in omega arith
 
-    pub receive-room : (c m : ℕ) → u.operation ≡ Receive c m → 0 < a
+    pub receive-room : (c m : ℕ) → u.operation ≡ Receive c m → 0 < w.at
     unfolding back
-    receive-room c m z = let n : length (back_over (system_of t) j needed).words ≡ 1 = ap (λ (b : Back). length b.words) (over_by (Receive c m) z needed) in omega arith
+    receive-room c m z = let n : length (back_over (system_of t) j (needed q)).words ≡ 1 = ap (λ (b : Back). length b.words) (over_by (Receive c m) z (needed q)) in omega arith
 
     module _ (c m : ℕ) (z : u.operation ≡ Send c m) where
       -- A self-loop, or not.
-      loop-is : u.source ≡ u.target → back_over (system_of t) j needed ≡ back true (send c m) j needed
-      loop-is y = over_by (Send c m) z needed ∙ ap (λ (b : Bool). back b (send c m) j needed) (eq-eqb _ _ y)
+      loop-is : u.source ≡ u.target → back_over (system_of t) j (needed q) ≡ back true (send c m) j (needed q)
+      loop-is y = over_by (Send c m) z (needed q) ∙ ap (λ (b : Bool). back b (send c m) j (needed q)) (eq-eqb _ _ y)
 
-      plain-is : (u.source ≡ u.target → ⊥) → back_over (system_of t) j needed ≡ back false (send c m) j needed
-      plain-is y = over_by (Send c m) z needed ∙ ap (λ (b : Bool). back b (send c m) j needed) (ne_eqb _ _ y)
+      plain-is : (u.source ≡ u.target → ⊥) → back_over (system_of t) j (needed q) ≡ back false (send c m) j (needed q)
+      plain-is y = over_by (Send c m) z (needed q) ∙ ap (λ (b : Bool). back b (send c m) j (needed q)) (ne_eqb _ _ y)
 
-      pub strip-room : u.source ≡ u.target → length (needed c) - length (stripped m (needed c)) ≤ a
+      pub strip-room : u.source ≡ u.target → length (needed q c) - length (stripped m (needed q c)) ≤ w.at
       unfolding back
       strip-room y =
-          let k = length-replicate (length (needed c) - length (stripped m (needed c))) j in
-          let n : length (back_over (system_of t) j needed).words ≡ length (replicate (length (needed c) - length (stripped m (needed c))) j) = ap (λ (b : Back). length b.words) (loop-is y) in
+          let k = length-replicate (length (needed q c) - length (stripped m (needed q c))) j in
+          let n : length (back_over (system_of t) j (needed q)).words ≡ length (replicate (length (needed q c) - length (stripped m (needed q c))) j) = ap (λ (b : Back). length b.words) (loop-is y) in
           omega arith
 
-      pub send-room : (u.source ≡ u.target → ⊥) → 0 < a
+      pub send-room : (u.source ≡ u.target → ⊥) → 0 < w.at
       send-room y =
-          let n : length (back_over (system_of t) j needed).words ≡ length (back false (send c m) j needed).words = ap (λ (b : Back). length b.words) (plain-is y) in
-          omega (arith, one_word c m j needed)
+          let n : length (back_over (system_of t) j (needed q)).words ≡ length (back false (send c m) j (needed q)).words = ap (λ (b : Back). length b.words) (plain-is y) in
+          omega (arith, one_word c m j (needed q))
 
-      pub went-strip : (w : List ℕ) (x : ℕ) (d' v : List ℕ) (p : ℕ) → u.source ≡ u.target → x ≡ j → Went (back true (send c m) x needed) s d w a s d' v p → Went (back_over (system_of t) j needed) s d w a s d' v p
-      went-strip w x d' v p y k q = subst (λ (b : Back). Went b s d w a s d' v p) (ap (λ (i : ℕ). back true (send c m) i needed) k ∙ sym (loop-is y)) q
+      pub went-strip : (x : ℕ) (d : Needs) (v : Tail) → u.source ≡ u.target → x ≡ j → Went (back true (send c m) x (needed q)) q w d v → Went (back_over (system_of t) j (needed q)) q w d v
+      went-strip x d v y k r = subst (λ (b : Back). Went b q w d v) (ap (λ (i : ℕ). back true (send c m) i (needed q)) k ∙ sym (loop-is y)) r
 
-      pub went-send : (w d' v : List ℕ) (p : ℕ) → (u.source ≡ u.target → ⊥) → Went (back false (send c m) j needed) s d w a s d' v p → Went (back_over (system_of t) j needed) s d w a s d' v p
-      went-send w d' v p y q = subst (λ (b : Back). Went b s d w a s d' v p) (sym (plain-is y)) q
+      pub went-send : (d : Needs) (v : Tail) → (u.source ≡ u.target → ⊥) → Went (back false (send c m) j (needed q)) q w d v → Went (back_over (system_of t) j (needed q)) q w d v
+      went-send d v y r = subst (λ (b : Back). Went b q w d v) (sym (plain-is y)) r
 
-    pub went-quiet : (w : List ℕ) (y : ℕ) (v : List ℕ) (p : ℕ) → u.operation ≡ Quiet → y ≡ j → Pushed y w a v p → Went (back_over (system_of t) j needed) s d w a s d v p
+    pub went-quiet : (y : ℕ) (v : Tail) → u.operation ≡ Quiet → y ≡ j → Pushed y w v → Went (back_over (system_of t) j (needed q)) q w q v
     unfolding back
-    went-quiet w y v p z k q =
-        subst (λ (b : Back). Went b s d w a s d v p) (sym (over_by Quiet z needed))
+    went-quiet y v z k r =
+        subst (λ (b : Back). Went b q w q v) (sym (over_by Quiet z (needed q)))
         (record {
-          words = q.words ∙ ap (λ (x : ℕ). x ∷ part a 2048 w) k;
-          place = omega (arith, q.place);
+          words = r.words ∙ ap (λ (x : ℕ). x ∷ standing w) k;
+          place = omega (arith, r.place);
           before = refl;
-          keeps = λ n r. needed-more n (n + 1) s d r (omega arith);
+          keeps = λ n k. needed-more n (n + 1) q k (omega arith);
         })
 
-    pub went-receive : (w : List ℕ) (c m y : ℕ) (s' d' v : List ℕ) (p : ℕ) → u.operation ≡ Receive c m → PutFront c m s d s' d' → y ≡ j → Pushed y w a v p
-        → Went (back_over (system_of t) j needed) s d w a s' d' v p
+    pub went-receive : (c m y : ℕ) (d : Needs) (v : Tail) → u.operation ≡ Receive c m → PutFront c m q d → y ≡ j → Pushed y w v → Went (back_over (system_of t) j (needed q)) q w d v
     unfolding back
-    went-receive w c m y s' d' v p z r k q =
-        subst (λ (b : Back). Went b s d w a s' d' v p) (sym (over_by (Receive c m) z needed))
+    went-receive c m y d v z f k r =
+        subst (λ (b : Back). Went b q w d v) (sym (over_by (Receive c m) z (needed q)))
         (record {
-          words = q.words ∙ ap (λ (x : ℕ). x ∷ part a 2048 w) k;
-          place = omega (arith, q.place);
-          before = r.before;
-          keeps = r.keeps;
+          words = r.words ∙ ap (λ (x : ℕ). x ∷ standing w) k;
+          place = omega (arith, r.place);
+          before = f.before;
+          keeps = f.keeps;
         })

@@ -1,86 +1,60 @@
 // Going back over a move: a receive puts its message in front; a send drops it from the end if it stands there (kept), else the message was lost; a
 // self-loop send strips all that stand at the end, and becomes as many kept sends.
-ghost use Rattle.std.specs.Prelude.{◌≡◌, true, false, ◌-◌, ◌<◌, ◌≤◌, length};
+ghost use Rattle.std.specs.Prelude.{true, false, ◌-◌, ◌<◌, ◌≤◌, length};
 ghost use Rattle.meaning.specs.Systems.{send};
-ghost use Rattle.table.specs.Systems.{GoodTable, system_of};
-ghost use Rattle.channels.specs.Contents.{contents_in};
+ghost use Rattle.table.specs.Systems.{system_of};
 ghost use Rattle.findings.specs.Rebuild.{stripped, back, back_over};
-ghost use Rattle.back.specs.Needs.{Needed, Went};
+ghost use Rattle.back.specs.Needs.{needed, Needed, Went};
 
-use crate::needs::{drop_last, push_word, put_front};
-use table::{Operation, Shape, transition_at};
-use work::writing::word;
+use crate::needs::Needs;
+use crate::tails::Tail;
+use table::{Operation, Table};
 
-// Back over a self-loop send with the run word x. Answers where the words stand then. Inner.
-fn strip_sends(
-    store: &[u8],
-    ends: &mut [usize],
-    channel: usize,
-    message: usize,
-    words: &mut [u16],
-    at: usize,
-    x: u16,
-) -> usize
-    requires channel_bound { (channel < 4) × Needed 2047 store.now ends.old × (length words.old ≡ 2048) × (at ≤ 2048) }
-    requires channel_len_bound { length (contents_in store.now ends.old channel) - length (stripped message (contents_in store.now ends.old channel)) ≤ at }
-    ensures { Went (back true (send channel message) x (contents_in store.now ends.old)) store.now ends.old words.old at store.now ends.new words.new result }
+// Back over a self-loop send with the run word x. Inner.
+fn strip_sends(needs: &mut Needs, channel: usize, message: usize, run: &mut Tail, x: u16)
+    requires few_needed { (channel < 4) × Needed 2047 needs.old }
+    requires room { length (needed needs.old channel) - length (stripped message (needed needs.old channel)) ≤ run.old.at }
+    ensures { Went (back true (send channel message) x (needed needs.old)) needs.old run.old needs.new run.new }
 {
-    let mut place = at;
-    while drop_last(store, ends, channel, message) {
-        place = push_word(words, place, x);
+    while needs.drop_last(channel, message) {
+        run.push(x);
     }
-    place
 }
 
 // Back over a send that is no self-loop, of transition j. Inner.
-fn back_send(
-    store: &[u8],
-    ends: &mut [usize],
-    channel: usize,
-    message: usize,
-    words: &mut [u16],
-    at: usize,
-    j: usize,
-) -> usize
-    requires { (channel < 4) × Needed 2047 store.now ends.old × (length words.old ≡ 2048) × (0 < at) × (at ≤ 2048) × (j < 32768) }
-    ensures { Went (back false (send channel message) j (contents_in store.now ends.old)) store.now ends.old words.old at store.now ends.new words.new result }
+fn back_send(needs: &mut Needs, channel: usize, message: usize, run: &mut Tail, j: usize)
+    requires { (channel < 4) × Needed 2047 needs.old × (0 < run.old.at) × (j < 32768) }
+    ensures { Went (back false (send channel message) j (needed needs.old)) needs.old run.old needs.new run.new }
 {
-    if drop_last(store, ends, channel, message) {
-        return push_word(words, at, word(j));
+    if needs.drop_last(channel, message) {
+        run.push(j as u16);
+        return;
     }
-    push_word(words, at, word(j + 32768))
+    run.push((j + 32768) as u16);
 }
 
 // Back over transition j. Inner.
-pub fn back_over(
-    t: &[u8],
-    s: Shape,
-    j: usize,
-    store: &mut [u8],
-    ends: &mut [usize],
-    words: &mut [u16],
-    at: usize,
-) -> usize
-    requires good_table { GoodTable t.now s × (j < s.transitions) }
-    requires needed { Needed 2047 store.old ends.old × (length words.old ≡ 2048) × (at ≤ 2048) }
-    requires ends_len_bound { length (back_over (system_of t.now) j (contents_in store.old ends.old)).words ≤ at }
-    ensures { Went (back_over (system_of t.now) j (contents_in store.old ends.old)) store.old ends.old words.old at store.new ends.new words.new result }
+pub fn back_over(table: &Table, j: usize, needs: &mut Needs, run: &mut Tail)
+    requires there { j < table.now.shape.transitions }
+    requires few_needed { Needed 2047 needs.old }
+    requires room { length (back_over (system_of table.now.bytes.now) j (needed needs.old)).words ≤ run.old.at }
+    ensures { Went (back_over (system_of table.now.bytes.now) j (needed needs.old)) needs.old run.old needs.new run.new }
 {
-    let m = transition_at(t, j);
+    let m = table.transition(j);
     let operation = m.operation;
+    let word = j as u16;
     match operation {
-        Operation::Quiet => {
-            return push_word(words, at, word(j));
-        }
+        Operation::Quiet => run.push(word),
         Operation::Send { channel, message } => {
             if m.source == m.target {
-                return strip_sends(store, ends, channel, message, words, at, word(j));
+                strip_sends(needs, channel, message, run, word);
+            } else {
+                back_send(needs, channel, message, run, j);
             }
-            return back_send(store, ends, channel, message, words, at, j);
         }
         Operation::Receive { channel, message } => {
-            put_front(store, ends, channel, message);
-            return push_word(words, at, word(j));
+            needs.put_front(channel, message);
+            run.push(word);
         }
     }
 }

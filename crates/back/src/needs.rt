@@ -1,45 +1,49 @@
 // What the channels must hold, in local memory: 2,048 places for each of 4 channels, filled from the last place down, and the ends of what stands
 // there. The heads stand in the first four places of the ends, the tails in the next four.
-ghost use Rattle.std.specs.Prelude.{◌≡◌, ◌<◌, ◌≤◌, length};
-ghost use Rattle.back.specs.Needs.{Needed, PutFront, DropLast, Pushed};
+ghost use Rattle.std.specs.Prelude.{◌<◌};
+ghost use Rattle.back.specs.Needs.{Needed, PutFront, DropLast};
 
-use reader::numbers::wide;
-
-// Puts a message in front of its channel's needed word. Inner.
-pub fn put_front(store: &mut [u8], ends: &mut [usize], channel: usize, message: usize)
-    requires { (channel < 4) × (message < 256) × Needed 2047 store.old ends.old }
-    ensures { PutFront channel message store.old ends.old store.new ends.new }
-{
-    let head = ends[channel] - 1;
-    store[2048 * channel + head] = message as u8;
-    ends[channel] = head;
+#[derive(Drop)]
+pub struct Needs {
+    pub store: [u8; 8192],
+    pub ends: [usize; 8],
 }
 
-// Drops a message from the end of its channel's needed word, if it stands there; says whether it did. Inner.
-pub fn drop_last(store: &[u8], ends: &mut [usize], channel: usize, message: usize) -> bool
-    requires { (channel < 4) × Needed 2047 store.now ends.old }
-    ensures { DropLast channel message store.now ends.old ends.new result }
-{
-    let head = ends[channel];
-    let tail = ends[4 + channel];
-    if head < tail {
-        let last = tail - 1;
-        let found = wide(store[2048 * channel + last]);
-        if found == message {
-            ends[4 + channel] = last;
-            return true;
+impl Needs {
+    // Nothing is needed. Inner.
+    pub fn none() -> Needs
+        ensures { Needed 0 result }
+    {
+        Needs {
+            store: [0; 8192],
+            ends: [2048; 8],
         }
-        return false;
     }
-    false
-}
 
-// Puts a word in front of those that stand from a place on; answers where they stand then. Inner.
-pub fn push_word(words: &mut [u16], at: usize, x: u16) -> usize
-    requires { (length words.old ≡ 2048) × (0 < at) × (at ≤ 2048) }
-    ensures { Pushed x words.old at words.new result }
-{
-    let place = at - 1;
-    words[place] = x;
-    place
+    // Puts a message in front of its channel's needed word. Inner.
+    pub fn put_front(&mut self, channel: usize, message: usize)
+        requires { (channel < 4) × (message < 256) × Needed 2047 self.old }
+        ensures { PutFront channel message self.old self.new }
+    {
+        let head = self.ends[channel] - 1;
+        self.store[2048 * channel + head] = message as u8;
+        self.ends[channel] = head;
+    }
+
+    // Drops a message from the end of its channel's needed word, if it stands there; says whether it did. Inner.
+    pub fn drop_last(&mut self, channel: usize, message: usize) -> bool
+        requires { (channel < 4) × Needed 2047 self.old }
+        ensures { DropLast channel message self.old self.new result }
+    {
+        let tail = self.ends[4 + channel];
+        if tail <= self.ends[channel] {
+            return false;
+        }
+        let last = tail - 1;
+        if usize::from(self.store[2048 * channel + last]) != message {
+            return false;
+        }
+        self.ends[4 + channel] = last;
+        true
+    }
 }

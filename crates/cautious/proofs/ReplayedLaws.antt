@@ -1,42 +1,36 @@
 -- The answer of search and replay in a row: how it comes about.
-use mathlib.Core.Path.{◌≡◌, refl, sym, ap, subst, ◌∙◌}
-use mathlib.Core.List.{List}
-use Prim.Native.Nat.{ℕ, ◌≤◌}
-use native.Mathlib.Omega.{arith}
-use lib.ListN.{length, take, drop, length-append}
+use Rattle.std.proofs.Common.{◌≡◌, refl, sym, ap, subst, ◌∙◌, List, ℕ, ◌≤◌, arith, length, take, drop, length-append, Ok, Err}
+use Rattle.std.proofs.Common as std
 use Rattle.common.specs.Front.{front}
 use Rattle.common.specs.Part.{part}
 use Rattle.common.proofs.FrontLaws.{front-part}
 use Rattle.common.proofs.PartLaws.{part-take}
 use Rattle.search.specs.Searching.{Result, Searches}
-use Rattle.search.specs.declared.searches.Answer as search
-use Rattle.search.specs.declared.searches.Answer.TheVariants as searched
+use Rattle.search.specs.Searching as search
+use Rattle.search.specs.declared.searches.Verdict.TheVariants as verdict
 use Rattle.search.proofs.SearchLaws.{Counted, search-counted}
 use Rattle.replay.specs.Replaying.{replay_of}
-use Rattle.replay.specs.declared.replays.Answer as replay
-use Rattle.replay.specs.declared.replays.Answer.TheVariants as answer
+use Rattle.replay.specs.declared.replays.Ending.{Ending}
+use Rattle.replay.specs.declared.replays.Ending.TheVariants as ending
+use Rattle.replay.specs.declared.replays.Refused as replay
 use Rattle.cautious.specs.Judged.{result_of, work_left}
-use Rattle.cautious.specs.Replayed.{by_replay, run_said, ReplaysSearch}
-use Rattle.cautious.specs.declared.replayed.Replayed.{Replayed}
-use Rattle.cautious.specs.declared.replayed.Replayed.TheVariants.{Denied, NotUnsafe}
+use Rattle.cautious.specs.Replayed.{Replayed, by_replay, run_said, ReplaysSearch}
+use Rattle.cautious.specs.declared.replayed.NotReached.TheVariants.{Denied, NotUnsafe}
 
 -- ---- the arms of each match: the one answer that goes on, and all others
 
-pub run-denied : (n : ℕ) (a : replay.Answer) → ((k : ℕ) → a ≡ answer.ReachesBad k → ⊥) → Denied a ≡ by_replay n a
-run-denied n (answer.Refused f at) h = refl
-run-denied n answer.TooLong h = refl
-run-denied n (answer.Stuck i) h = refl
-run-denied n (answer.EndsElsewhere q) h = refl
-run-denied n (answer.ReachesBad k) h = absurd (h k refl)
+pub run-denied : (n : ℕ) (a : std.Result Ending replay.Refused) → ((k : ℕ) → a ≡ Ok (ending.Bad k) → ⊥) → Err (Denied a) ≡ by_replay n a
+run-denied n (Err r) h = refl
+run-denied n (Ok (ending.Stuck i)) h = refl
+run-denied n (Ok (ending.Elsewhere q)) h = refl
+run-denied n (Ok (ending.Bad k)) h = absurd (h k refl)
 
-not-unsafe : (t run : List ℕ) (a : search.Answer) → ((n k : ℕ) → a ≡ searched.Unsafe n k → ⊥) → NotUnsafe a ≡ run_said t run a
-not-unsafe t run (searched.Refused f at) h = refl
-not-unsafe t run (searched.SmallWork n) h = refl
-not-unsafe t run (searched.SmallRun n) h = refl
-not-unsafe t run (searched.Safe n) h = refl
-not-unsafe t run (searched.Unsafe n k) h = absurd (h n k refl)
-not-unsafe t run (searched.RowsFull n i j) h = refl
-not-unsafe t run (searched.AtomsFull n i j) h = refl
+not-unsafe : (t run : List ℕ) (a : search.Answer) → ((n k : ℕ) → a ≡ Ok (verdict.Unsafe n k) → ⊥) → Err (NotUnsafe a) ≡ run_said t run a
+not-unsafe t run (Err r) h = refl
+not-unsafe t run (Ok (verdict.Safe n)) h = refl
+not-unsafe t run (Ok (verdict.Unsafe n k)) h = absurd (h n k refl)
+not-unsafe t run (Ok (verdict.RowsFull n i j)) h = refl
+not-unsafe t run (Ok (verdict.AtomsFull n i j)) h = refl
 
 -- ---- the call
 
@@ -48,11 +42,11 @@ module _ (t work run : List ℕ) (a : search.Answer) (work' run' : List ℕ) (d 
   abbrev x : Result
   x = result_of t work run
 
-  pub replays-other : ((n k : ℕ) → a ≡ searched.Unsafe n k → ⊥) → ReplaysSearch t work run (NotUnsafe a) work' run'
+  pub replays-other : ((n k : ℕ) → a ≡ Ok (verdict.Unsafe n k) → ⊥) → ReplaysSearch t work run (Err (NotUnsafe a)) work' run'
   replays-other h = record { answer = not-unsafe t x.run a h ∙ ap (run_said t x.run) d.answer; rows = d.rows; words = d.words }
 
   -- The run is as long as is said, and it is the words that are replayed.
-  module _ (n k : ℕ) (e : a ≡ searched.Unsafe n k) where
+  module _ (n k : ℕ) (e : a ≡ Ok (verdict.Unsafe n k)) where
     count : k ≡ length x.run
     count = subst (λ (y : search.Answer). Counted (record { answer = y; rows = x.rows; run = x.run })) (sym d.answer ∙ e) (search-counted t (length work) (length run))
 
@@ -70,7 +64,7 @@ module _ (t work run : List ℕ) (a : search.Answer) (work' run' : List ℕ) (d 
         record { answer = q ∙ ap (λ (us : List ℕ). by_replay n (replay_of t us)) run_is ∙ ap (run_said t x.run) (sym e ∙ d.answer); rows = d.rows; words = d.words }
 
 -- The first words of the run buffer, where the search says unsafe.
-pub run-words : (t work run : List ℕ) (n k : ℕ) → (result_of t work run).answer ≡ searched.Unsafe n k → part 0 k (front (result_of t work run).run run) ≡ (result_of t work run).run
+pub run-words : (t work run : List ℕ) (n k : ℕ) → (result_of t work run).answer ≡ Ok (verdict.Unsafe n k) → part 0 k (front (result_of t work run).run run) ≡ (result_of t work run).run
 run-words t work run n k e =
     run-part t work run (result_of t work run).answer (work_left t work run) (front (result_of t work run).run run) (record { answer = refl; rows = refl; words = refl }) n k e
 

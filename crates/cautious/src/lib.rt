@@ -6,5 +6,5 @@ pub mod judged;
 pub mod replayed;
 
 // What the later parts name.
-pub use crate::judged::{Judged, search_and_judge};
-pub use crate::replayed::{Replayed, search_and_replay};
+pub use crate::judged::{Accepted, NotAccepted, search_and_judge};
+pub use crate::replayed::{NotReached, Reached, search_and_replay};

@@ -3,40 +3,40 @@ ghost use Rattle.std.specs.Prelude.{◌≡◌, ◌≤◌, length, take};
 ghost use Rattle.replay.specs.Replaying.{replay_of};
 ghost use Rattle.cautious.specs.Replayed.{by_replay, ReplaysSearch};
 
-use replay::replay;
-use search::searches::search;
+use replay::{Ending, replay};
+use search::searches::{Verdict, search};
 
-// The answer: unsafe, with so many rows, and the replay of so many first words of the run buffer reached bad in as many steps; the search said unsafe, but the
-// replay did not reach bad; or another answer of the search.
+// Unsafe, with so many rows, and the replay of so many first words of the run buffer reached bad in as many steps.
+#[derive(Clone, Copy, Debug, PartialEq, Eq)]
+pub struct Reached {
+    pub rows: usize,
+    pub steps: usize,
+}
+
+// Why not: the search said unsafe, but the replay did not reach bad; or the search answered otherwise.
 #[derive(Clone, Copy)]
-pub enum Replayed {
-    Reached { rows: usize, steps: usize },
-    Denied(replay::Answer),
-    NotUnsafe(search::searches::Answer),
+pub enum NotReached {
+    Denied(Result<Ending, replay::Refused>),
+    NotUnsafe(Result<Verdict, search::searches::Refused>),
 }
 
 // Has the first words of the run replayed. Inner.
-fn replay_words(t: &[u8], rows: usize, run: &[u16], steps: usize) -> Replayed
+fn replay_words(t: &[u8], rows: usize, run: &[u16], steps: usize) -> Result<Reached, NotReached>
     requires { steps ≤ length run.now }
     ensures { result ≡ by_replay rows (replay_of t.now (take steps run.now)) }
 {
-    let answer = replay(t, &run[..steps]);
-    match answer {
-        replay::Answer::ReachesBad(played) => Replayed::Reached {
-            rows,
-            steps: played,
-        },
-        _ => Replayed::Denied(answer),
+    match replay(t, &run[..steps]) {
+        Ok(Ending::Bad(steps)) => Ok(Reached { rows, steps }),
+        answer => Err(NotReached::Denied(answer)),
     }
 }
 
 // Searches, and with unsafe has the run replayed. Any bytes and any lent words are taken.
-pub fn search_and_replay(t: &[u8], work: &mut [u16], run: &mut [u16]) -> Replayed
+pub fn search_and_replay(t: &[u8], work: &mut [u16], run: &mut [u16]) -> Result<Reached, NotReached>
     ensures { ReplaysSearch t.now work.old run.old result work.new run.new }
 {
-    let answer = search(t, work, run);
-    match answer {
-        search::searches::Answer::Unsafe { rows, steps } => replay_words(t, rows, run, steps),
-        _ => Replayed::NotUnsafe(answer),
+    match search(t, work, run) {
+        Ok(Verdict::Unsafe { rows, steps }) => replay_words(t, rows, run, steps),
+        answer => Err(NotReached::NotUnsafe(answer)),
     }
 }

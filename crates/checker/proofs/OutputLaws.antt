@@ -1,28 +1,20 @@
 -- What is said of an input, and that its text is the output.
-use mathlib.Core.Path.{◌≡◌, refl, sym, ap, subst, ◌∙◌}
-use mathlib.Core.List.{List}
-use Prim.Native.Nat.{ℕ, ◌<◌, ◌≤◌}
-use lib.ListN.{length}
+use Rattle.std.proofs.Common.{◌≡◌, refl, sym, ap, subst, ◌∙◌, List, Result, Err, ℕ, ◌<◌, ◌≤◌, length}
 use Rattle.common.proofs.ChoiceLaws.{lt-then, lt-else}
 use Rattle.table.specs.Answers.{number_of, place_of}
 use Rattle.table.specs.Checking.{check_table}
-use Rattle.table.specs.Systems.{GoodTable, system_of}
-use Rattle.table.specs.declared.faults.Fault.{Fault}
+use Rattle.table.specs.Systems.{system_of}
+use Rattle.table.specs.declared.faults.Refusal.{Refusal}
 use Rattle.table.specs.declared.checks.Shape.{Shape}
-use Rattle.table.specs.declared.checks.Checked.{Checked}
-use Rattle.table.specs.declared.checks.Checked.TheVariants as checked
 use Rattle.wording.specs.Written.{Written}
 use Rattle.wording.specs.Lines.{too_long_line, refused_line}
 use Rattle.wording.specs.Steps.{Answer, answer_text}
 use Rattle.verdicts.specs.Said.{said_by}
 use Rattle.verdicts.proofs.SaidLaws.{left-says}
 use Rattle.checker.specs.Output.{found, found_text, output_of}
+use Rattle.search.specs.Searching as search
 use Rattle.search.specs.Searching.{search_with, search_of, Searches}
-use Rattle.search.specs.declared.searches.Answer as search
 use Rattle.search.proofs.SearchLaws.{search-counted}
-
-pub good-table : (t : List ℕ) (c : Checked) (s : Shape) → c ≡ check_table t → c ≡ checked.Good s → GoodTable t s
-good-table t c s e k = sym e ∙ k
 
 module _ (t l m : List ℕ) (r : ℕ) where
   pub found-told : (work run : List ℕ) (v : search.Answer) (work' run' : List ℕ) → length work ≡ 26368 → length run ≡ 512 → Searches t work run v work' run'
@@ -41,7 +33,7 @@ module _ (t l m : List ℕ) (r : ℕ) where
   unfolding output_of
   good-told h w = subst (λ (a : Answer). Written l 0 (answer_text (system_of t) a) m r) (lt-else _ _ _ _ h refl) w
 
-  pub refused-told : (c : Checked) (f : Fault) (at : ℕ) → length t ≤ 36874 → c ≡ check_table t → c ≡ checked.Refused f at → Written l 0 (refused_line (number_of f) (place_of f at)) m r → Written l 0 (output_of t) m r
+  pub refused-told : (f : Refusal) → length t ≤ 36874 → check_table t ≡ Err f → Written l 0 (refused_line (number_of f.fault) (place_of f.fault f.at)) m r → Written l 0 (output_of t) m r
   unfolding found search_of
-  refused-told c f at h e k w =
-      good-told h (subst (λ (x : Checked). Written l 0 (answer_text (system_of t) (said_by (search_with t 26368 512 x).answer (search_with t 26368 512 x).run)) m r) (sym k ∙ e) w)
+  refused-told f h e w =
+      good-told h (subst (λ (x : Result Shape Refusal). Written l 0 (answer_text (system_of t) (said_by (search_with t 26368 512 x).answer (search_with t 26368 512 x).run)) m r) (sym e) w)

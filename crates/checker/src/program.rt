@@ -2,7 +2,7 @@
 ghost use Rattle.std.specs.Prelude.{◌≡◌, length};
 
 use crate::answers::write_answer;
-use input::{Input, read_input};
+use input::read_input;
 use std::io::Read;
 
 // Writes to standard output, or says that it cannot.
@@ -26,11 +26,11 @@ pub fn check_input<R: Print + Eprint, I: Read>(
     requires { (length work.old ≡ 26368) × (length run.old ≡ 512) × (length out.old ≡ 8192) }
 {
     match read_input(reader, table) {
-        Input::UpTo(n) => {
+        Ok(n) => {
             let size = write_answer(&table[..n], work, run, out);
             write_output(rt, &out[..size]);
         }
-        Input::Failed(_) => {
+        Err(_) => {
             let _ = rt.eprintln("the input cannot be read");
         }
     }

@@ -1,12 +1,9 @@
 -- The element at a place of a list that grows at its end.
-use mathlib.Core.Path.{◌≡◌, refl, sym, ap, ◌∙◌}
-use mathlib.Core.Logic.{◌⊎◌, inl, inr, ◌↔◌}
+use Rattle.std.proofs.Common.{◌≡◌, refl, sym, ap, ◌∙◌, ◌⊎◌, inl, inr, ◌↔◌, List, [], ◌∷◌, ◌++◌, map, append_assoc, append-nil, ℕ, zero, suc, ◌<◌, ◌≤◌, arith, length}
 use mathlib.Core.List.Memᴰ
-use mathlib.Core.List.{List, [], ◌∷◌, ◌++◌, map, append_assoc, append-nil, Memᴰ}
+use mathlib.Core.List.{Memᴰ}
 use mathlib.Core.Option.{none, some, none-ne-some, some-injective}
-use Prim.Native.Nat.{ℕ, zero, suc, ◌<◌, ◌≤◌}
-use native.Mathlib.Omega.{arith}
-use lib.ListN.{length, get_elem?}
+use lib.ListN.{get_elem?}
 
 module _ {A : Type 0} where
   -- e stands at place n of l.

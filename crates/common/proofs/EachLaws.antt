@@ -1,9 +1,6 @@
 -- What holds of each element: of the one at a place, of a part of the list, of two lists joined, of each one that is weaker.
-use mathlib.Core.Path.{refl, subst}
-use mathlib.Core.List.{List, [], ◌∷◌, ◌++◌}
+use Rattle.std.proofs.Common.{refl, subst, List, [], ◌∷◌, ◌++◌, ℕ, zero, suc, take, drop}
 use mathlib.Core.Option.{none-ne-some, some-injective}
-use Prim.Native.Nat.{ℕ, zero, suc}
-use lib.ListN.{take, drop}
 use Rattle.common.specs.Each.{Each}
 use Rattle.common.specs.Part.{part}
 use Rattle.common.proofs.AtLaws.{At}

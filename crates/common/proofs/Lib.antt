@@ -8,3 +8,4 @@ pub mod FrontLaws
 pub mod FirstLaws
 pub mod StoreLaws
 pub mod StandLaws
+pub mod CopyLaws

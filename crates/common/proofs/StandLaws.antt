@@ -1,9 +1,5 @@
 -- Words that stand somewhere in a list.
-use mathlib.Core.Path.{◌≡◌, refl, sym, ap, ◌∙◌}
-use mathlib.Core.List.{List, [], ◌∷◌, ◌++◌, append_assoc, append-nil}
-use Prim.Native.Nat.{ℕ, ◌+◌, ◌≤◌}
-use native.Mathlib.Omega.{arith}
-use lib.ListN.{length, get_or, take, drop, length-append}
+use Rattle.std.proofs.Common.{◌≡◌, refl, sym, ap, ◌∙◌, List, [], ◌∷◌, ◌++◌, append_assoc, append-nil, ℕ, ◌+◌, ◌≤◌, arith, length, get_or, take, drop, length-append}
 use lib.Seq.{take_at, drop_at, get_or_at}
 use Rattle.common.specs.Front.{front}
 use Rattle.common.specs.Part.{part}

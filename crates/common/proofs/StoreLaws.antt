@@ -1,10 +1,7 @@
 -- A range of lent memory, written place by place: stores one behind the other are one, and all other places keep their words.
-use mathlib.Core.Path.{◌≡◌, refl, sym, ap, ◌∙◌}
-use mathlib.Core.List.{List, [], ◌∷◌, ◌++◌, append_assoc, append-nil}
-use Prim.Native.Nat.{ℕ, ◌+◌, ◌-◌, ◌<◌, ◌≤◌}
+use Rattle.std.proofs.Common.{◌≡◌, refl, sym, ap, ◌∙◌, List, [], ◌∷◌, ◌++◌, append_assoc, append-nil, ℕ, ◌+◌, ◌-◌, ◌<◌, ◌≤◌, arith, length, get_or, take, drop, set, length-append, length-drop, take-append-drop}
 use native.Mathlib.Numerals.{add-one}
-use native.Mathlib.Omega.{arith}
-use lib.ListN.{length, get_or, take, drop, set, length-append, length-drop, take-append-drop, get_or-append}
+use lib.ListN.{get_or-append}
 use lib.Seq.{take_at, take-append-le, take-append-add, drop-append-add, drop-drop, take-take, get_or-take, set_split, length-take-le}
 use Rattle.common.specs.Front.{front}
 use Rattle.common.specs.Part.{part}

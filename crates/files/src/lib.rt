@@ -9,6 +9,6 @@ pub mod reading;
 mod system;
 pub mod writing;
 
-pub use crate::names::is_named;
+pub use crate::names::check_named;
 pub use crate::reading::{read_named, read_standard};
 pub use crate::writing::{write_named, write_output};

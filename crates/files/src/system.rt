@@ -26,8 +26,8 @@ pub(crate) fn unlink<R: Files>(rt: &R, path: &[u8]) -> io::Result<()> {
 }
 
 fn name_text(path: &[u8]) -> io::Result<&str> {
-    match str::from_utf8(path) {
-        Ok(text) => Ok(text),
-        Err(_) => Err(io::Error::new(ErrorKind::InvalidFilename, "the name is not UTF-8")),
-    }
+    str::from_utf8(path).map_err(|_| io::Error::new(
+        ErrorKind::InvalidFilename,
+        "the name is not UTF-8",
+    ))
 }

@@ -3,4 +3,4 @@
 
 pub mod reading;
 
-pub use crate::reading::{Input, read_input};
+pub use crate::reading::read_input;

@@ -1,19 +1,13 @@
 -- Memory that holds the rows of a good list: it is long enough, and its rows are these.
-use mathlib.Core.Path.{◌≡◌, refl, sym, ap}
-use mathlib.Core.Bool.{true, false}
-use mathlib.Core.Logic.{◌⊎◌, inl, inr}
-use mathlib.Core.List.{List, [], ◌∷◌}
-use Prim.Native.Nat.{ℕ, suc, ◌+◌, ◌<◌, ◌≤◌}
-use native.Mathlib.Omega.{arith}
-use lib.Dec.{ltb}
-use lib.ListN.{length}
-use borrow.Author.Tests.{ltb-true, ltb-false}
+use Rattle.std.proofs.Common.{◌≡◌, refl, sym, ap, ◌∙◌, true, false, ◌⊎◌, inl, inr, List, [], ◌∷◌, ℕ, zero, suc, ◌+◌, ◌<◌, ◌≤◌, arith, ltb, length, take, get_or, length-take-le, ltb-true, ltb-false}
+use Rattle.std.proofs.lemmas.List.{get_or-take}
 use Rattle.common.specs.Each.{Each}
 use Rattle.common.proofs.AtLaws.{At, at_some}
 use Rattle.common.proofs.BoolLaws.{either}
 use Rattle.common.proofs.ChoiceLaws.{lt-then, lt-else}
 use Rattle.common.proofs.EachLaws.{each_at}
 use Rattle.common.proofs.PartLaws.{part_length}
+use Rattle.rows.specs.Look.{rows_from}
 use Rattle.rows.specs.Rows.{Row}
 use Rattle.table.specs.declared.checks.Shape.{Shape}
 use Rattle.lists.specs.Format.{RowFits}
@@ -62,7 +56,7 @@ module _ (s : Shape) (l : List Row) (w : Memory) (d : Decoded s.channels l w) (f
   row_is i r a = λ x. record { state = d.state_at i r a x; products = λ c. product_is i r a c x }
 
   rows-from : (m : List Row) (i : ℕ) → ((j : ℕ) (r : Row) → At m j r → row_at n w.states starts atoms (i + j) ≡ r) → rows_at n w.states starts atoms (length m) i ≡ m
-  unfolding rows_at
+  unfolding rows_from
   rows-from [] i h = refl
   rows-from (r ∷ m) i h =
       let z : i + 0 ≡ i = omega arith in
@@ -72,3 +66,15 @@ module _ (s : Shape) (l : List Row) (w : Memory) (d : Decoded s.channels l w) (f
 
   pub loaded-rows : rows_at n w.states starts atoms (length l) 0 ≡ l
   loaded-rows = rows-from l 0 (λ j r a. let z : 0 + j ≡ j = omega arith in rw z (row_is j r a))
+
+-- So many states tell as many rows.
+pub taken-rows : (n : ℕ) (states starts atoms : List ℕ) (count : ℕ) → count ≤ length states → rows_at n (take count states) starts atoms (length (take count states)) 0 ≡ rows_at n states starts atoms count 0
+unfolding rows_from
+taken-rows n states starts atoms count h = ap (λ (k : ℕ). rows_at n (take count states) starts atoms k 0) (length-take-le count states h) ∙ go count 0 (omega arith)
+  where
+    go : (k i : ℕ) → i + k ≤ count → rows_at n (take count states) starts atoms k i ≡ rows_at n states starts atoms k i
+    go zero i z = refl
+    go (suc k) i z =
+        let same : get_or (take count states) i 0 ≡ get_or states i 0 = get_or-take count states i 0 (omega arith) in
+        let rest = go k (i + 1) (omega arith) in
+        λ x. record { state = same x; products = product_at n starts atoms i } ∷ rest x

@@ -1,65 +1,56 @@
 -- A product copied to the front of a buffer, and what an operation makes of it there.
-use mathlib.Core.Path.{◌≡◌, refl, sym, ap, subst, ◌∙◌}
-use mathlib.Core.Bool.{Bool}
-use mathlib.Core.List.{List, [], ◌∷◌, ◌++◌}
-use mathlib.Core.Option.{Option, none, some, map}
-use Prim.Native.Nat.{ℕ, ◌+◌, ◌-◌, ◌<◌, ◌≤◌}
-use native.Mathlib.Omega.{arith}
-use lib.ListN.{length, set}
+use Rattle.std.proofs.Common.{◌≡◌, refl, sym, ap, ◌∙◌, Bool, List, [], ◌∷◌, ◌++◌, ℕ, ◌+◌, ◌≤◌, arith, length, set, drop, length-append, length-drop}
+use Rattle.std.proofs.Math.Option.{Option, none, some, map}
 use Rattle.common.specs.Front.{front}
 use Rattle.common.specs.Part.{part}
 use Rattle.common.proofs.ChoiceLaws.{lt-else}
 use Rattle.common.proofs.FrontLaws.{front-part}
-use Rattle.common.proofs.PartLaws.{part_length, part_none, part-set}
-use Rattle.meaning.specs.Systems.{Ranged, put}
+use Rattle.common.proofs.PartLaws.{part_none, part-set}
+use Rattle.meaning.specs.Systems.{put}
 use Rattle.meaning.proofs.PutLaws.{put_id}
 use Rattle.atoms.specs.Receive.{received}
-use Rattle.atoms.specs.Ranges.{left_of, Within}
-use Rattle.atoms.specs.declared.products.Left.{Left}
-use Rattle.atoms.specs.declared.products.Left.TheVariants as left
+use Rattle.atoms.proofs.ReceiveLaws.{received-end}
 use Rattle.rows.specs.Outcomes.{sent_atom, after}
 use Rattle.table.specs.Transitions.{operation_of}
 use Rattle.table.specs.declared.transitions.Operation.{Operation}
 use Rattle.table.specs.declared.transitions.Operation.TheVariants.{Quiet, Send, Receive}
-use Rattle.judge.specs.Look.{from_at, to_at, product_at, Range}
+use Rattle.judge.specs.Look.{product_at}
 use Rattle.judge.specs.Outcomes.{Sent}
-use Rattle.judge.proofs.LookLaws.{product-there}
 
--- ---- l is the buffer b with the words of w from f up to t in front
+-- ---- words x are copied over the first of a buffer b
 
-pub copied-there : (w b l : List ℕ) (f t : ℕ) → l ≡ front (part f t w) b → t ≤ length w → part 0 (t - f) l ≡ part f t w
-copied-there w b l f t e h = ap (part 0 (t - f)) e ∙ front-part (part f t w) b (t - f) (part_length f t w h)
+-- They are read back there.
+copied-back : (x r b : List ℕ) → x ≡ r → part 0 (length r) (x ++ drop (length r) b) ≡ r
+unfolding front
+copied-back x r b e = rw e (front-part r b (length r) refl)
 
-module _ (n : ℕ) (starts w : List ℕ) (i c f t : ℕ) (h : c < n) (e : f ≡ from_at n starts i c) (d : t ≡ to_at n starts i c) (g : Range f t (length w)) where
-  pub sent-made : (b l : List ℕ) (x : ℕ) → l ≡ front (part f t w) b → t - f < length l → Sent (product_at n starts w i c) x (set l (t - f) x) (t - f + 1)
-  sent-made b l x k z =
+-- p is the product of channel c of row i.
+module _ (n : ℕ) (starts w : List ℕ) (i c : ℕ) (p : List ℕ) (e : p ≡ product_at n starts w i c) where
+  pub sent-made : (x b : List ℕ) (a : ℕ) → x ≡ p → length p ≤ 24 → 25 ≤ length b → Sent (product_at n starts w i c) a (set (x ++ drop (length p) b) (length p) a) (length p + 1)
+  sent-made x b a d few z =
       record {
-        few = omega (arith, g.short);
-        product = part-set (t - f) l x z ∙ ap (λ (p : List ℕ). p ++ (x ∷ [])) (copied-there w b l f t k g.inside ∙ product-there n starts w i c f t h e d);
+        few = omega arith;
+        product = part-set (length p) (x ++ drop (length p) b) a (omega (arith, length-append x (drop (length p) b), length-drop (length p) b, ap length d))
+            ∙ ap (λ (q : List ℕ). q ++ (a ∷ [])) (copied-back x p b d ∙ e);
       }
 
+  -- What the product's words become.
+  abbrev changes : List ℕ → ℕ → List ℕ
+  changes = put (product_at n starts w i) c
+
   -- A receive.
-  module _ (m : ℕ) {r : Left} (says : left_of r t w ≡ received m (part f t w)) where
-    says-left : (v : Left) → r ≡ v → map (put (product_at n starts w i) c) (left_of v t w) ≡ map (put (product_at n starts w i) c) (received m (product_at n starts w i c))
-    says-left v q = ap (map (put (product_at n starts w i) c)) (ap (λ (x : Left). left_of x t w) (sym q) ∙ says ∙ ap (received m) (product-there n starts w i c f t h e d))
+  module _ (m : ℕ) where
+    pub received_none : received m p ≡ none → none ≡ map changes (received m (product_at n starts w i c))
+    received_none h = ap (map changes) (sym h ∙ ap (received m) e)
 
-    pub received_none : r ≡ left.Impossible → none ≡ map (put (product_at n starts w i) c) (received m (product_at n starts w i c))
-    received_none q = says-left left.Impossible q
+    module _ (q : List ℕ) (h : received m p ≡ some q) where
+      pub received-few : length p ≤ 24 → length q ≤ 24
+      received-few few = omega (arith, few, (received-end m p h).0)
 
-    pub received-some : (p : ℕ) (b l : List ℕ) → r ≡ left.From p → l ≡ front (part p t w) b
-        → some (put (product_at n starts w i) c (part 0 (t - p) l)) ≡ map (put (product_at n starts w i) c) (received m (product_at n starts w i c))
-    received-some p b l q k = ap (λ (x : List ℕ). some (put (product_at n starts w i) c x)) (copied-there w b l p t k g.inside) ∙ says-left (left.From p) q
-
-pub left-place : (r : Left) (i f t : ℕ) → r ≡ left.From i → Within r f t → (f ≤ i) × (i ≤ t)
-left-place r i f t e w = subst (λ (x : Left). Within x f t) e w
+      pub received-some : (x b : List ℕ) → x ≡ q → some (changes (part 0 (length q) (x ++ drop (length q) b))) ≡ map changes (received m (product_at n starts w i c))
+      received-some x b d = ap (λ (y : List ℕ). some (changes y)) (copied-back x q b d) ∙ ap (map changes) (sym h ∙ ap (received m) e)
 
 -- ---- the operation
-
-pub sends-in : (n : ℕ) (o : Operation) (c m : ℕ) → o ≡ Send c m → Ranged n 15 (operation_of o) → (c < n) × (m < 15)
-sends-in n o c m e g = subst (λ (x : Operation). Ranged n 15 (operation_of x)) e g
-
-pub receives-in : (n : ℕ) (o : Operation) (c m : ℕ) → o ≡ Receive c m → Ranged n 15 (operation_of o) → (c < n) × (m < 15)
-receives-in n o c m e g = subst (λ (x : Operation). Ranged n 15 (operation_of x)) e g
 
 module _ (loop : Bool) (n : ℕ) (starts w : List ℕ) (i : ℕ) (o : Operation) where
   -- Channel 4 is none of the row's.

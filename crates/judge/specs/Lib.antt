@@ -1,5 +1,6 @@
 -- What the judge's functions answer and leave.
 pub mod Look
+pub mod Memory
 pub mod Outcomes
 pub mod States
 pub mod Moves

@@ -1,10 +1,9 @@
--- Rows as a list's memory tells them, and the look over them for one that contains an outcome.
-use Rattle.std.specs.Prelude.{Bool, List, [], ◌∷◌, ℕ, zero, suc, ◌+◌, ◌*◌, ◌<◌, ◌≤◌, length, get_or}
+-- Rows as a list's memory tells them, for the look over them.
+use Rattle.std.specs.Prelude.{List, [], ℕ, ◌+◌, ◌*◌, ◌<◌, ◌≤◌, length, get_or}
 use Rattle.common.specs.Choice.{if_lt}
-use Rattle.common.specs.First.{any_of}
 use Rattle.common.specs.Part.{part}
-use Rattle.meaning.specs.Systems.{put}
-use Rattle.rows.specs.Rows.{Row, covers}
+use Rattle.rows.specs.Look.{rows_from}
+use Rattle.rows.specs.Rows.{Row}
 
 -- Where the atoms of channel c of row i begin, and where they end.
 unfoldable pub from_at : ℕ → List ℕ → ℕ → ℕ → ℕ
@@ -22,17 +21,8 @@ abbrev pub row_at : ℕ → List ℕ → List ℕ → List ℕ → ℕ → Row
 row_at n states starts atoms i = record { state = get_or states i 0; products = product_at n starts atoms i }
 
 -- k rows, from row i on.
-unfoldable pub rows_at : ℕ → List ℕ → List ℕ → List ℕ → ℕ → ℕ → List Row
-rows_at n states starts atoms zero i = []
-rows_at n states starts atoms (suc k) i = row_at n states starts atoms i ∷ rows_at n states starts atoms k (i + 1)
-
--- The outcome: in the target state, with the products of row i but for q at one channel.
-abbrev pub outcome_row : ℕ → List ℕ → List ℕ → ℕ → ℕ → ℕ → List ℕ → Row
-outcome_row n starts atoms target i channel q = record { state = target; products = put (product_at n starts atoms i) channel q }
-
--- Some row of the first `rows` contains it.
-unfoldable pub covered_in : ℕ → List ℕ → List ℕ → List ℕ → ℕ → Row → Bool
-covered_in n states starts atoms rows o = any_of (λ s. covers n s o) (rows_at n states starts atoms rows 0)
+abbrev pub rows_at : ℕ → List ℕ → List ℕ → List ℕ → ℕ → ℕ → List Row
+rows_at n states starts atoms k i = rows_from (row_at n states starts atoms) k i
 
 -- A range of at most 24 places among the first k.
 pub record Range (from to k : ℕ) : Type 0 where

@@ -4,10 +4,10 @@
 #![tactic(auto)]
 
 pub mod judging;
-pub mod look;
+pub mod memory;
 pub mod moves;
 pub mod outcomes;
 pub mod states;
 
 // What the later parts name.
-pub use crate::judging::{Answer, judge};
+pub use crate::judging::{Judgement, Refused, judge};

@@ -1,39 +1,37 @@
 // What is said of a table's bytes and a list's.
-ghost use Rattle.std.specs.Prelude.{◌≡◌, ◌≤◌, length};
+ghost use Rattle.std.specs.Prelude.{◌≡◌, ◌≤◌, length, Ok};
 ghost use Rattle.judge.specs.Judging.{answer_of};
 ghost use Rattle.wording.specs.Written.{Written};
 ghost use Rattle.judger.specs.Output.{line_of, output_of};
 
-use judge::{Answer, judge};
-use wording::answers::{
-    accepted_line, bad_row_line, input_fault_line, long_list_line, long_table_line, no_start_line,
-    not_closed_line,
-};
+use judge::{Judgement, Refused, judge};
+use wording::Line;
+use wording::lines::input_fault_line;
 
-// Writes the line of the judge's answer.
-fn write_line(answer: Answer, out: &mut [u8]) -> usize
+// Writes the line of what is said of the rows.
+fn write_judgement(judgement: Judgement, out: &mut [u8]) -> usize
+    requires { 80 ≤ length out.old }
+    ensures { Written out.old 0 (line_of (answer_of (Ok judgement))) out.new result }
+{
+    match judgement {
+        Judgement::NoStart => Line::NoStart.write(out, 0),
+        Judgement::BadRow(row) => Line::BadRow(row).write(out, 0),
+        Judgement::NotClosed { row, transition } => {
+            Line::NotClosed { row, transition }.write(out, 0)
+        }
+        Judgement::Accepted => Line::Accepted.write(out, 0),
+    }
+}
+
+// Writes the line of the judge's answer. The table is input 0, the list input 1.
+fn write_line(answer: Result<Judgement, Refused>, out: &mut [u8]) -> usize
     requires { 80 ≤ length out.old }
     ensures { Written out.old 0 (line_of (answer_of answer)) out.new result }
 {
     match answer {
-        Answer::TableRefused { fault, at } => {
-            return input_fault_line(out, 0, fault, 0, at);
-        }
-        Answer::ListRefused { fault, at } => {
-            return input_fault_line(out, 0, fault, 1, at);
-        }
-        Answer::NoStart => {
-            return no_start_line(out, 0);
-        }
-        Answer::BadRow(row) => {
-            return bad_row_line(out, 0, row);
-        }
-        Answer::NotClosed { row, transition } => {
-            return not_closed_line(out, 0, row, transition);
-        }
-        Answer::Accepted => {
-            return accepted_line(out, 0);
-        }
+        Ok(judgement) => write_judgement(judgement, out),
+        Err(Refused::Table(refusal)) => input_fault_line(out, 0, refusal, 0),
+        Err(Refused::List(refusal)) => input_fault_line(out, 0, refusal, 1),
     }
 }
 
@@ -43,11 +41,10 @@ pub fn write_answer(table: &[u8], list: &[u8], out: &mut [u8]) -> usize
     ensures { Written out.old 0 (output_of table.now list.now) out.new result }
 {
     if 36874 < table.len() {
-        return long_table_line(out, 0);
+        return Line::LongTable.write(out, 0);
     }
     if 206848 < list.len() {
-        return long_list_line(out, 0);
+        return Line::LongList.write(out, 0);
     }
-    let answer = judge(table, list);
-    write_line(answer, out)
+    write_line(judge(table, list), out)
 }

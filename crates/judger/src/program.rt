@@ -3,8 +3,8 @@ ghost use Rattle.std.specs.Prelude.{◌≤◌, length};
 
 use crate::answers::write_answer;
 use files::{read_named, write_output};
-use input::Input;
 use std::env::Env;
+use std::io;
 use std::rt::Files;
 
 // Reads the table, then the list, and writes what is said of both. Where one cannot be read nothing is said, since the bytes may be only
@@ -15,17 +15,11 @@ pub fn judge_files<R: Env + Files + Print, E: Print>(
     table: &mut [u8],
     list: &mut [u8],
     out: &mut [u8],
-)
+) -> io::Result<()>
     requires { 80 ≤ length out.old }
 {
-    match read_named(rt, errors, 1, b"table", table) {
-        Input::Failed(_) => {}
-        Input::UpTo(n) => match read_named(rt, errors, 2, b"list", list) {
-            Input::Failed(_) => {}
-            Input::UpTo(m) => {
-                let size = write_answer(&table[..n], &list[..m], out);
-                write_output(rt, errors, &out[..size]);
-            }
-        },
-    }
+    let n = read_named(rt, errors, 1, b"table", table)?;
+    let m = read_named(rt, errors, 2, b"list", list)?;
+    let size = write_answer(&table[..n], &list[..m], out);
+    write_output(rt, errors, &out[..size])
 }

@@ -1,50 +1,31 @@
 -- The calls on products: the test of their words, and what each answers and leaves.
-use mathlib.Core.Path.{◌≡◌, refl, sym, ap, subst, ◌∙◌}
-use mathlib.Core.Bool.{Bool, true, false, true≢false}
-use mathlib.Core.Logic.{◌⊎◌, inl, inr}
-use mathlib.Core.List.{List, [], ◌∷◌}
+use Rattle.std.proofs.Common.{◌≡◌, refl, sym, ap, subst, ◌∙◌, Bool, true, false, cond, true≢false, ◌⊎◌, inl, inr, List, [], ◌∷◌, ◌++◌, ◌&&◌, drop, ℕ, ◌-◌, ◌<◌, ◌≤◌, arith, length, take, zero-add}
 use mathlib.Core.Option.{none, some}
-use Prim.Native.Nat.{ℕ, ◌+◌, ◌-◌, ◌<◌, ◌≤◌}
-use native.Mathlib.Omega.{arith}
-use lib.ListN.{length, get_or}
 use Rattle.common.specs.Choice.{if_true}
 use Rattle.common.specs.Front.{front}
 use Rattle.common.specs.Part.{part}
 use Rattle.common.proofs.ChoiceLaws.{true-then, true-else, true-cases, lt-then, lt-else, lt-cases}
 use Rattle.common.proofs.FrontLaws.{front-part}
-use Rattle.common.proofs.PartLaws.{part_none, part-cons, part-all, part_length}
+use Rattle.common.proofs.PartLaws.{part-take, part-all, part_length}
+use Rattle.common.proofs.CopyLaws.{part-drop}
 use Rattle.atoms.specs.Masks.{Atoms, atom_test}
+use Rattle.std.specs.List.{list_all}
+use mir.Val.{bool_byte}
 use Rattle.atoms.specs.Contained.{contained}
 use Rattle.atoms.specs.Receive.{received}
 use Rattle.atoms.specs.Normal.{normal}
-use Rattle.atoms.specs.Ranges.{Normalised, left_of, Within}
-use Rattle.atoms.specs.declared.products.Left.{Left}
-use Rattle.atoms.specs.declared.products.Left.TheVariants.{From, Impossible}
+use Rattle.atoms.specs.Ranges.{Normalised}
 use Rattle.atoms.proofs.AtomLaws.{atom-test}
 use Rattle.atoms.proofs.MaskLaws.{has-over}
-use Rattle.atoms.proofs.ReceiveLaws.{receive-none, receive-past}
+use Rattle.atoms.proofs.ReceiveLaws.{receive-none, receive-past, received-end}
 use Rattle.lcs.specs.Expressions.{all_atoms, is_product, contained_answer, NormalFront, normal_answer, normal_leaves, left_count, left_front, receive_answer, receive_leaves}
 
 -- ---- each word is an atom
 
-pub all-starts : (p : List ℕ) → all_atoms (part 0 (length p) p) ≡ all_atoms p
-all-starts p = ap all_atoms (part-all p)
-
-module _ (p : List ℕ) (i : ℕ) (same : all_atoms (part i (length p) p) ≡ all_atoms p) where
-  pub all-ends : length p ≤ i → true ≡ all_atoms p
-  unfolding all_atoms
-  all-ends h = subst (λ (l : List ℕ). all_atoms l ≡ all_atoms p) (part_none i (length p) p h) same
-
-  module _ (h : i < length p) where
-    head : if_true (atom_test 15 (get_or p i 0)) (all_atoms (part (i + 1) (length p) p)) false ≡ all_atoms p
-    unfolding all_atoms
-    head = subst (λ (l : List ℕ). all_atoms l ≡ all_atoms p) (part-cons i (length p) p h (omega arith)) same
-
-    pub all-next : atom_test 15 (get_or p i 0) ≡ true → all_atoms (part (i + 1) (length p) p) ≡ all_atoms p
-    all-next e = true-then _ _ _ e refl ∙ head
-
-    pub all-not : atom_test 15 (get_or p i 0) ≡ false → false ≡ all_atoms p
-    all-not e = true-else _ _ _ e refl ∙ head
+pub all-listed : (p : List ℕ) → list_all (atom_test 15) p ≡ all_atoms p
+unfolding all_atoms if_true
+all-listed [] = refl
+all-listed (a ∷ p) = elim (atom_test 15 a) as (λ b. (b && list_all (atom_test 15) p) ≡ cond b (all_atoms p) false) [ true ↦ all-listed p | false ↦ refl ]
 
 all-atoms : (p : List ℕ) → all_atoms p ≡ true → Atoms p
 unfolding all_atoms
@@ -61,9 +42,9 @@ pub too_many : (p : List ℕ) → 25 < length p → false ≡ is_product p
 unfolding is_product
 too_many p h = lt-then _ _ _ _ h refl
 
-pub few-enough : (p : List ℕ) {r : Bool} → length p ≤ 25 → r ≡ all_atoms p → r ≡ is_product p
+pub few-enough : (p : List ℕ) {r : Bool} → length p ≤ 25 → r ≡ list_all (atom_test 15) p → r ≡ is_product p
 unfolding is_product
-few-enough p h e = lt-else _ _ _ _ h e
+few-enough p h e = lt-else _ _ _ _ h (e ∙ all-listed p)
 
 -- A product has at most 25 words, each an atom.
 pub product_is : (p : List ℕ) → is_product p ≡ true → (length p ≤ 25) × Atoms p
@@ -77,44 +58,43 @@ product_is p e = go (lt-cases _ _ _ _ e)
 -- ---- contained
 
 module _ (p q : List ℕ) where
-  pub contained-first : is_product p ≡ false → 2 ≡ contained_answer p q
+  pub contained-first : false ≡ is_product p → 2 ≡ contained_answer p q
   unfolding contained_answer
-  contained-first e = true-else _ _ _ e refl
+  contained-first e = true-else _ _ _ (sym e) refl
 
-  module _ (i : is_product p ≡ true) where
-    pub contained-second : is_product q ≡ false → 2 ≡ contained_answer p q
+  module _ (i : true ≡ is_product p) where
+    pub contained-second : false ≡ is_product q → 2 ≡ contained_answer p q
     unfolding contained_answer
-    contained-second e = true-then _ _ _ i (true-else _ _ _ e refl)
+    contained-second e = true-then _ _ _ (sym i) (true-else _ _ _ (sym e) refl)
 
-    module _ (j : is_product q ≡ true) where
-      whole : contained (part 0 (length p) p) (part 0 (length q) q) ≡ contained p q
-      whole = rw (part-all p, part-all q) refl
-
-      pub contained-yes : true ≡ contained (part 0 (length p) p) (part 0 (length q) q) → 1 ≡ contained_answer p q
-      unfolding contained_answer
-      contained-yes e = true-then _ _ _ i (true-then _ _ _ j (true-then _ _ _ (sym (e ∙ whole)) refl))
-
-      pub contained-no : false ≡ contained (part 0 (length p) p) (part 0 (length q) q) → 0 ≡ contained_answer p q
-      unfolding contained_answer
-      contained-no e = true-then _ _ _ i (true-then _ _ _ j (true-else _ _ _ (sym (e ∙ whole)) refl))
+    pub contained-says : (r : Bool) {n : ℕ} → true ≡ is_product q → r ≡ contained p q → n ≡ bool_byte r → n ≡ contained_answer p q
+    unfolding contained_answer if_true
+    contained-says r j e k = rw (← i, ← j, k, e) (as_number (contained p q))
+      where
+        as_number : (b : Bool) → bool_byte b ≡ cond b 1 0
+        as_number true = refl
+        as_number false = refl
 
 -- ---- normal form: l is the copy, with the words of p in front, and r the copy with their normal form in front
 
-module _ (p l z : List ℕ) (e : l ≡ front (part 0 (length p) p) z) where
-  copy-whole : part 0 (length p) l ≡ p
-  copy-whole =
-      ap (part 0 (length p)) e ∙ front-part (part 0 (length p) p) z (length p) (part_length 0 (length p) p (omega arith) ∙ omega arith) ∙ part-all p
+module _ (p z : List ℕ) (n : ℕ) (same : n ≡ length p) {new : List ℕ} (copied : new ≡ p) where
+  -- The copy has p in front.
+  copy-whole : part 0 n (new ++ drop n z) ≡ p
+  unfolding front
+  copy-whole = rw (copied, same) (front-part p z (length p) refl)
 
-  pub copy-atoms : Atoms p → Atoms (part 0 (length p) l)
+  pub copy-atoms : Atoms p → Atoms (part 0 n (new ++ drop n z))
   copy-atoms a = subst Atoms (sym copy-whole) a
 
-  pub normal-made : (r q : List ℕ) (k : ℕ) → Normalised l (length p) r k → length p ≤ 25 → k ≤ length r → q ≡ front (part 0 k r) p → NormalFront p q k
-  normal-made r q k n f h w =
-      let form : part 0 k r ≡ normal p = n.form ∙ ap normal copy-whole in
+  pub normal-made : (r : List ℕ) (k : ℕ) {back : List ℕ} → Normalised (new ++ drop n z) n r k → n ≤ 25 → k ≤ length r → back ≡ take k r → NormalFront p (back ++ drop k p) k
+  unfolding front
+  normal-made r k m f h w =
+      let form : part 0 k r ≡ normal p = m.form ∙ ap normal copy-whole in
+      let count : k ≡ length (normal p) = sym (ap length (sym form) ∙ part_length 0 k r h ∙ omega arith) in
       record {
-        few = omega (arith, n.few);
-        count = sym (ap length (sym form) ∙ part_length 0 k r h ∙ omega arith);
-        leaves = w ∙ ap (λ (xs : List ℕ). front xs p) form;
+        few = omega (arith, m.few);
+        count = count;
+        leaves = rw (w, ← part-take k r, form, count) refl;
       }
 
 module _ (p : List ℕ) where
@@ -129,18 +109,18 @@ module _ (p : List ℕ) where
 -- ---- receive
 
 module _ (p : List ℕ) (m : ℕ) where
-  -- What the answer says of the whole product, from what it says of the range of all its words.
-  pub receive-impossible : {r : Left} → r ≡ Impossible → left_of r (length p) p ≡ received m (part 0 (length p) p)
-      → (65534 ≡ left_count (received m p)) × (p ≡ left_front p (received m p))
-  receive-impossible {r} e h =
-      let s : none ≡ received m p = ap (λ (x : Left). left_of x (length p) p) (sym e) ∙ h ∙ ap (received m) (part-all p) in
-      (rw (← s) refl, rw (← s) refl)
+  pub receive-impossible : received m p ≡ none → (65534 ≡ left_count (received m p)) × (p ≡ left_front p (received m p))
+  receive-impossible e = rw e (refl, refl)
 
-  pub receive-left : (j : ℕ) (q : List ℕ) {r : Left} → r ≡ From j → left_of r (length p) p ≡ received m (part 0 (length p) p) → j ≤ length p → q ≡ front (part j (length p) p) p
-      → (length p - j ≡ left_count (received m p)) × (q ≡ left_front p (received m p))
-  receive-left j q e h l w =
-      let s : some (part j (length p) p) ≡ received m p = ap (λ (x : Left). left_of x (length p) p) (sym e) ∙ h ∙ ap (received m) (part-all p) in
-      (rw (← s) (sym (part_length j (length p) p (omega arith))), rw (← s) w)
+  -- What is left is the end of the product.
+  pub receive-left : (l q : List ℕ) → received m p ≡ some l → q ≡ front (part (length p - length l) (length p) p) p
+      → (length l ≡ left_count (received m p)) × (q ≡ left_front p (received m p))
+  receive-left l q e w =
+      let s = received-end m p e in
+      let n = length p - length l in
+      let end : part n (length p) p ≡ l =
+      ap (λ (f : ℕ). part f (length p) p) (sym (zero-add n)) ∙ sym (part-drop n 0 (length p) p) ∙ ap (drop n) (part-all p) ∙ s.1 in
+      rw e (refl, w ∙ ap (λ (x : List ℕ). front x p) end)
 
   pub receive-refused : is_product p ≡ false → (65535 ≡ receive_answer p m) × (p ≡ receive_leaves p m)
   unfolding receive_answer receive_leaves
@@ -158,7 +138,3 @@ module _ (p : List ℕ) (m : ℕ) where
         none_over : (q : List ℕ) → none ≡ received m q
         none_over [] = receive-none m
         none_over (a ∷ q) = none_over q ∙ receive-past m a q (has-over a m h)
-
--- The place where what is left begins lies in the range.
-pub left-within : (r : Left) (j f t : ℕ) → r ≡ From j → Within r f t → j ≤ t
-left-within r j f t e w = (subst (λ (x : Left). Within x f t) e w).1

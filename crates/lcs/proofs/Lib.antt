@@ -1,8 +1,2 @@
--- The laws of the calls.
+-- The laws of the calls on products.
 pub mod ExpressionLaws
-pub mod JudgeCallLaws
-pub mod RefusalLaws
-pub mod ReplayCallLaws
-pub mod SearchCallLaws
-pub mod TableLaws
-pub mod WriteCallLaws

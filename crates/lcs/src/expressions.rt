@@ -1,52 +1,32 @@
 // The calls on products: contained, normal form, receive.
 ghost use Rattle.std.specs.Prelude.{◌≡◌, ◌<◌, ◌≤◌, length};
-ghost use Rattle.lcs.specs.Expressions.{is_product, all_atoms, contained_answer, NormalFront, normal_answer, normal_leaves, left_count, left_front, receive_answer, receive_leaves};
+ghost use Rattle.lcs.specs.Expressions.{is_product, contained_answer, NormalFront, normal_answer, normal_leaves, left_count, left_front, receive_answer, receive_leaves};
 ghost use Rattle.atoms.specs.Masks.{Atoms};
 ghost use Rattle.atoms.specs.Receive.{received};
 
-use atoms::copies::{copy_front, move_front};
-use atoms::masks::is_atom;
-use atoms::products::{Left, contained_at, normalise, receive_at};
+use atoms::masks::all_atoms;
+use atoms::products::{contained, normalise, received};
 
-// Each word is an atom.
-fn all_atoms(p: &[u16]) -> bool
-    ensures { result ≡ all_atoms p.now }
-{
-    let mut i = 0;
-    while i < p.len() {
-        if is_atom(p[i], 15) {
-            i += 1;
-        } else {
-            return false;
-        }
-    }
-    true
-}
+// What is answered where the words are no product, and where a receive is impossible.
+const NO_PRODUCT: u32 = 65535;
+
+const IMPOSSIBLE: u32 = 65534;
 
 // The words are at most 25, and each is an atom.
 fn is_product(p: &[u16]) -> bool
     ensures { result ≡ is_product p.now }
 {
-    if 25 < p.len() {
-        return false;
-    }
-    all_atoms(p)
+    p.len() <= 25 && all_atoms(p, 15)
 }
 
 // Whether every word of p is a word of q.
 pub fn lcs_contained(p: &[u16], q: &[u16]) -> u32
     ensures { result ≡ contained_answer p.now q.now }
 {
-    if is_product(p) {
-        if is_product(q) {
-            if contained_at(p, 0, p.len(), q, 0, q.len()) {
-                return 1;
-            }
-            return 0;
-        }
+    if !is_product(p) || !is_product(q) {
         return 2;
     }
-    2
+    u32::from(contained(p, q))
 }
 
 // Brings the product to normal form in its first places. It is made in a copy, so that later places keep their values.
@@ -56,9 +36,9 @@ fn normal_front(p: &mut [u16]) -> usize
 {
     let mut copy = [0u16; 25];
     let n = p.len();
-    copy_front(p, 0, n, &mut copy);
+    copy[..n].copy_from_slice(p);
     let count = normalise(&mut copy, n);
-    copy_front(&copy, 0, count, p);
+    p[..count].copy_from_slice(&copy[..count]);
     count
 }
 
@@ -67,10 +47,10 @@ pub fn lcs_normal(p: &mut [u16]) -> u32
     ensures value { result ≡ normal_answer p.old }
     ensures p_after { p.new ≡ normal_leaves p.old }
 {
-    if is_product(p) {
-        return normal_front(p) as u32;
+    if !is_product(p) {
+        return NO_PRODUCT;
     }
-    65535
+    normal_front(p) as u32
 }
 
 // What a receive of m leaves of the product, in its first places; 65,534 if it is impossible.
@@ -79,11 +59,12 @@ fn receive_front(p: &mut [u16], m: usize) -> u32
     ensures { (result ≡ left_count (received m p.old)) × (p.new ≡ left_front p.old (received m p.old)) }
 {
     let n = p.len();
-    match receive_at(p, 0, n, m) {
-        Left::Impossible => 65534,
-        Left::From(i) => {
-            move_front(p, i, n);
-            (n - i) as u32
+    match received(p, m) {
+        None => IMPOSSIBLE,
+        Some(left) => {
+            let count = left.len();
+            p.copy_within(n - count..n, 0);
+            count as u32
         }
     }
 }
@@ -93,11 +74,11 @@ pub fn lcs_receive(p: &mut [u16], message: u8) -> u32
     ensures value { result ≡ receive_answer p.old message }
     ensures p_after { p.new ≡ receive_leaves p.old message }
 {
-    if is_product(p) {
-        if 14 < message {
-            return 65534;
-        }
-        return receive_front(p, message as usize);
+    if !is_product(p) {
+        return NO_PRODUCT;
     }
-    65535
+    if 14 < message {
+        return IMPOSSIBLE;
+    }
+    receive_front(p, usize::from(message))
 }

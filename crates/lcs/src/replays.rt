@@ -3,34 +3,21 @@ ghost use Rattle.std.specs.Prelude.{◌≡◌};
 ghost use Rattle.replay.specs.Replaying.{replay_answer};
 ghost use Rattle.lcs.specs.Replays.{replay_code, replay_out};
 
-use replay::{Answer, replay};
-use table::{number_of, place_of};
+use crate::outs::{counts, refused};
+use replay::{Ending, Refused, replay};
 
 // What the run comes to when all its words are played, or the refusal.
 pub fn lcs_replay(table: &[u8], run: &[u16], out: &mut [u64; 3]) -> u32
     ensures value { result ≡ replay_code (replay_answer table.now run.now) }
     ensures out_after { out.new ≡ replay_out (replay_answer table.now run.now) }
 {
-    match replay(table, run) {
-        Answer::ReachesBad(steps) => {
-            *out = [steps as u64, 0, 0];
-            0
-        }
-        Answer::EndsElsewhere(state) => {
-            *out = [state as u64, 0, 0];
-            1
-        }
-        Answer::Stuck(step) => {
-            *out = [step as u64, 0, 0];
-            2
-        }
-        Answer::Refused { fault, at } => {
-            *out = [number_of(fault), 0, place_of(fault, at) as u64];
-            4
-        }
-        Answer::TooLong => {
-            *out = [6, 2, 0];
-            4
-        }
-    }
+    let (code, numbers) = match replay(table, run) {
+        Ok(Ending::Bad(steps)) => (0, counts([steps, 0, 0])),
+        Ok(Ending::Elsewhere(state)) => (1, counts([state, 0, 0])),
+        Ok(Ending::Stuck(step)) => (2, counts([step, 0, 0])),
+        Err(Refused::Table(refusal)) => (4, refused(refusal, 0)),
+        Err(Refused::TooLong) => (4, counts([6, 2, 0])),
+    };
+    *out = numbers;
+    code
 }

@@ -4,8 +4,8 @@ ghost use Rattle.common.specs.Front.{front};
 ghost use Rattle.work.specs.Layout.{all_words};
 ghost use Rattle.lcs.specs.Searches.{searched, search_code, search_out};
 
-use search::searches::{Answer, search};
-use table::{number_of, place_of};
+use crate::outs::{counts, refused};
+use search::searches::{Refused, Verdict, search};
 
 // The search's verdict or the refusal, with its rows in the first words of the work table, and with unsafe the run in those of the run buffer.
 pub fn lcs_search(table: &[u8], work: &mut [u16], run: &mut [u16], out: &mut [u64; 3]) -> u32
@@ -14,42 +14,27 @@ pub fn lcs_search(table: &[u8], work: &mut [u16], run: &mut [u16], out: &mut [u6
     ensures work_after { work.new ≡ front (all_words (searched table.now work.old run.old).rows) work.old }
     ensures run_after { run.new ≡ front (searched table.now work.old run.old).run run.old }
 {
-    match search(table, work, run) {
-        Answer::Safe(rows) => {
-            *out = [rows as u64, 0, 0];
-            0
-        }
-        Answer::Unsafe { rows, steps } => {
-            *out = [rows as u64, steps as u64, 0];
-            1
-        }
-        Answer::RowsFull {
-            rows,
-            row,
-            transition,
-        } => {
-            *out = [rows as u64, row as u64, transition as u64];
-            2
-        }
-        Answer::AtomsFull {
-            rows,
-            row,
-            transition,
-        } => {
-            *out = [rows as u64, row as u64, transition as u64];
-            3
-        }
-        Answer::Refused { fault, at } => {
-            *out = [number_of(fault), 0, place_of(fault, at) as u64];
-            4
-        }
-        Answer::SmallWork(words) => {
-            *out = [7, 3, words as u64];
-            4
-        }
-        Answer::SmallRun(words) => {
-            *out = [8, 3, words as u64];
-            4
-        }
-    }
+    let (code, numbers) = match search(table, work, run) {
+        Ok(Verdict::Safe(rows)) => (0, counts([rows, 0, 0])),
+        Ok(Verdict::Unsafe { rows, steps }) => (1, counts([rows, steps, 0])),
+        Ok(
+            Verdict::RowsFull {
+                rows,
+                row,
+                transition,
+            },
+        ) => (2, counts([rows, row, transition])),
+        Ok(
+            Verdict::AtomsFull {
+                rows,
+                row,
+                transition,
+            },
+        ) => (3, counts([rows, row, transition])),
+        Err(Refused::Table(refusal)) => (4, refused(refusal, 0)),
+        Err(Refused::SmallWork(words)) => (4, counts([7, 3, words])),
+        Err(Refused::SmallRun(words)) => (4, counts([8, 3, words])),
+    };
+    *out = numbers;
+    code
 }

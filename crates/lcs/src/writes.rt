@@ -4,8 +4,8 @@ ghost use Rattle.writer.specs.Writing.{written, bytes_of, left_by};
 ghost use Rattle.writer.specs.Answers.{write_answer};
 ghost use Rattle.lcs.specs.Writes.{write_code, write_out};
 
-use table::{number_of, place_of};
-use writer::{Written, write_list};
+use crate::outs::{counts, refused};
+use writer::{Refused, write_list};
 
 // How many bytes the list of the first rows of the work table has, which stands in the first bytes of list, or the refusal.
 pub fn lcs_write_list(
@@ -19,22 +19,12 @@ pub fn lcs_write_list(
     ensures out_after { out.new ≡ write_out (write_answer table.now work.now rows (length list.old)) }
     ensures list_after { list.new ≡ left_by (written table.now work.now rows (length list.old)) (bytes_of table.now work.now rows) list.old }
 {
-    match write_list(table, work, rows as usize, list) {
-        Written::Bytes(bytes) => {
-            *out = [bytes as u64, 0, 0];
-            0
-        }
-        Written::Refused { fault, at } => {
-            *out = [number_of(fault), 0, place_of(fault, at) as u64];
-            4
-        }
-        Written::BadRow(row) => {
-            *out = [9, 3, row as u64];
-            4
-        }
-        Written::TooSmall(needed) => {
-            *out = [10, 3, needed as u64];
-            4
-        }
-    }
+    let (code, numbers) = match write_list(table, work, rows as usize, list) {
+        Ok(bytes) => (0, counts([bytes, 0, 0])),
+        Err(Refused::Table(refusal)) => (4, refused(refusal, 0)),
+        Err(Refused::BadRow(row)) => (4, counts([9, 3, row])),
+        Err(Refused::TooSmall(needed)) => (4, counts([10, 3, needed])),
+    };
+    *out = numbers;
+    code
 }

@@ -1,14 +1,6 @@
 -- Round trip: the list of rows that fit is good, and its rows are those.
-use mathlib.Core.Path.{◌≡◌, refl, sym, ap, subst, fun_ext, ◌∙◌}
-use mathlib.Core.Logic.{◌⊎◌, inl, inr}
-use mathlib.Core.Bool.{true, false}
-use mathlib.Core.List.{List, [], ◌∷◌, ◌++◌, append-nil}
-use Prim.Native.Nat.{ℕ, zero, suc, ◌+◌, ◌*◌, ◌/◌, ◌%◌, ◌<◌, ◌≤◌}
-use native.Mathlib.Nat.{div-add-mod'}
-use native.Mathlib.Omega.{arith}
-use lib.ListN.{length, get_or, length-append}
-use lib.Dec.{ltb}
-use borrow.Author.Tests.{ltb-true, ltb-false}
+use Rattle.std.proofs.Common.{◌≡◌, refl, sym, ap, subst, ◌∙◌, ◌⊎◌, inl, inr, true, false, List, [], ◌∷◌, ◌++◌, append-nil, ℕ, zero, suc, ◌+◌, ◌*◌, ◌/◌, ◌%◌, ◌<◌, ◌≤◌, div-add-mod', arith, length, get_or, length-append, ltb, ltb-true, ltb-false, Ok}
+use mathlib.Core.Path.{fun_ext}
 use Rattle.common.specs.Each.{Each}
 use Rattle.common.proofs.BoolLaws.{either}
 use Rattle.common.proofs.ChoiceLaws.{lt-then, lt-else, eq-then, true-then}
@@ -27,8 +19,6 @@ use Rattle.lists.proofs.RowLaws.{payload-read, row-framed}
 use Rattle.lists.proofs.ListLaws.{turn-next, turn-done}
 use Rattle.lists.proofs.GoodLaws.{ProductFits, get-past}
 use Rattle.lists.specs.declared.products.Frame.{Frame}
-use Rattle.lists.specs.declared.records.Framed.TheVariants.{End}
-use Rattle.lists.specs.declared.reading.ListChecked.TheVariants.{Good}
 
 -- A number is read back from its two bytes.
 pub number-back : {t : List ℕ} {a : ℕ} (x : ℕ) → Stands t a (number_bytes x) → number_at t a ≡ x
@@ -123,7 +113,7 @@ row_back s t at i r h l st =
     let kind : number_at t (at + 2) ≡ 16 = number-back 16 c in
     let inside : at + 4 + length p ≤ length t = stands-inside d in
     let z : at + 4 + length p ≡ at + length (n ++ (k ++ p)) = omega arith in
-    let f : frame_at t at i ≡ End (at + 4 + length p) =
+    let f : frame_at t at i ≡ Ok (at + 4 + length p) =
     rw (size, kind) (sym (lt-else _ _ _ _ (omega arith) (eq-then _ _ _ _ refl (lt-else _ _ _ _ inside (lt-then _ _ _ _ l refl))))) in
     row-framed s t at i (at + 4 + length p) f ∙ payload-back s t at (at + 4 + length p) r h d refl ∙ ap (λ (x : ℕ). read r x) z
 
@@ -148,7 +138,7 @@ module _ (s : Shape) (l : List Row) (fits : Each (RowFits s) l) (few : length l 
       let t : List ℕ = list_bytes s.channels l in
       rows_back s t l 1025 0 0 fits (omega arith) refl (record { before = []; behind = []; whole = sym (append-nil t); place = refl }) (omega arith)
 
-  pub written-good : check_list s (list_bytes s.channels l) ≡ Good (length l)
+  pub written-good : check_list s (list_bytes s.channels l) ≡ Ok (length l)
   unfolding check_list
   written-good = rw list_back
 

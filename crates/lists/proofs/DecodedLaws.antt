@@ -1,11 +1,7 @@
 -- What stands where in memory that holds the rows of a list.
-use mathlib.Core.Path.{◌≡◌, refl, ap, subst, ◌∙◌}
-use mathlib.Core.List.{List, [], ◌∷◌, ◌++◌, map}
+use Rattle.std.proofs.Common.{◌≡◌, refl, ap, subst, ◌∙◌, List, [], ◌∷◌, ◌++◌, map, ℕ, zero, suc, ◌+◌, ◌*◌, ◌<◌, ◌≤◌, suc-mul, arith, length, get_or, drop, length-append}
 use mathlib.Core.Option.{some, none-ne-some, some-injective}
-use Prim.Native.Nat.{ℕ, zero, suc, ◌+◌, ◌*◌, ◌<◌, ◌≤◌}
-use native.Mathlib.Nat.{suc-mul}
-use native.Mathlib.Omega.{arith}
-use lib.ListN.{length, get_or, drop, length-append, length-map, get_or-append}
+use lib.ListN.{length-map, get_or-append}
 use Rattle.common.specs.Front.{front}
 use Rattle.common.proofs.AtLaws.{At, at-below, at-grown, at_map}
 use Rattle.common.proofs.StandLaws.{Stands, stands-first, stands-behind, stands-in, stands-front, stands-inside, stands-part}

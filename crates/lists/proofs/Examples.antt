@@ -1,8 +1,5 @@
 -- Worked examples: the list of example B, and each refusal.
-use mathlib.Core.Path.{◌≡◌, refl}
-use mathlib.Core.List.{List, [], ◌∷◌, ◌++◌}
-use Prim.Native.Nat.{ℕ}
-use lib.ListN.{take}
+use Rattle.std.proofs.Common.{◌≡◌, refl, List, [], ◌∷◌, ◌++◌, ℕ, take, Ok}
 use Rattle.common.specs.Choice.{if_lt, if_eq, if_true}
 use Rattle.atoms.specs.Masks.{atom_test, star, bit}
 use Rattle.rows.specs.Rows.{Row}
@@ -13,8 +10,6 @@ use Rattle.table.specs.declared.checks.Shape.{Shape}
 use Rattle.lists.specs.Format.{joined, number_bytes, product_bytes, payload_bytes, row_bytes, list_bytes}
 use Rattle.lists.specs.Reading.{fails, read_many, read_atom, read_product, read_payload, frame_at, read_row, read_rows, read_list, check_list, rows_of, row_with}
 use Rattle.lists.specs.Answers.{ListAnswer, refused, list_answer}
-use Rattle.lists.specs.declared.records.Framed.TheVariants.{End}
-use Rattle.lists.specs.declared.reading.ListChecked.TheVariants.{Good}
 
 -- Table B's shape: 3 states, 1 channel, 2 messages.
 abbrev shape_b : Shape
@@ -44,10 +39,10 @@ row_of size payload = (size ∷ 0 ∷ 16 ∷ 0 ∷ []) ++ payload
 
 pub record Worked : Type 0 where
   -- List B is good, has its rows, and is what its rows are written as. The empty list is good.
-  pub b_good : check_list shape_b list_b ≡ Good 3
+  pub b_good : check_list shape_b list_b ≡ Ok 3
   pub b_rows : rows_of shape_b list_b ≡ rows_b
   pub b_bytes : list_bytes 1 rows_b ≡ list_b
-  pub empty_good : check_list shape_b [] ≡ Good 0
+  pub empty_good : check_list shape_b [] ≡ Ok 0
   -- 1: a record cut in its first four bytes, or in its payload; a stray byte behind the last record.
   pub cut_head : list_answer shape_b (take 3 list_b) ≡ refused_at 1 0
   pub cut_payload : list_answer shape_b (take 15 list_b) ≡ refused_at 1 7
@@ -66,7 +61,7 @@ pub record Worked : Type 0 where
   pub no_atom : list_answer shape_b (row_of 5 (0 ∷ 0 ∷ 2 ∷ 3 ∷ 0 ∷ [])) ≡ refused_at 4 0
   pub message_high : list_answer shape_b (star_row 0 ++ row_of 5 (0 ∷ 0 ∷ 1 ∷ 4 ∷ 0 ∷ [])) ≡ refused_at 4 9
   -- 6: row 1,025, even if its state is out of range; row 1,024 is the last that may stand.
-  pub last_row : frame_at empty_row 0 1023 ≡ End 7
+  pub last_row : frame_at empty_row 0 1023 ≡ Ok 7
   pub row_over : read_row shape_b (row_of 2 (3 ∷ 0 ∷ [])) 0 1024 ≡ fails Count
 
 worked : Worked

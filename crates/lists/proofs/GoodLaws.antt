@@ -1,10 +1,5 @@
 -- The rows of a good list: each is a row of the table, with at most 24 atoms to a product, and there are at most 1,024.
-use mathlib.Core.Path.{◌≡◌, refl, subst}
-use mathlib.Core.Logic.{◌⊎◌, inl, inr}
-use mathlib.Core.List.{List, [], ◌∷◌}
-use Prim.Native.Nat.{ℕ, zero, suc, ◌+◌, ◌<◌, ◌≤◌}
-use native.Mathlib.Omega.{arith}
-use lib.ListN.{length, get_or}
+use Rattle.std.proofs.Common.{◌≡◌, refl, subst, ◌⊎◌, inl, inr, List, [], ◌∷◌, ℕ, zero, suc, ◌+◌, ◌<◌, ◌≤◌, arith, length, get_or, Result, Ok, Err}
 use Rattle.common.specs.Choice.{if_lt}
 use Rattle.common.specs.Each.{Each}
 use Rattle.common.proofs.ChoiceLaws.{lt-cases}
@@ -21,9 +16,6 @@ use Rattle.lists.proofs.ManyLaws.{no_read, same-thing, many-each}
 use Rattle.lists.proofs.AtomLaws.{atom-ok}
 use Rattle.lists.proofs.RowLaws.{frame-ok}
 use Rattle.lists.specs.declared.products.Frame.{Frame}
-use Rattle.lists.specs.declared.records.Framed.{Framed}
-use Rattle.lists.specs.declared.records.Framed.TheVariants as framed
-use Rattle.lists.specs.declared.reading.ListChecked.TheVariants.{Good}
 
 -- A product of a list row for a table with k messages.
 pub record ProductFits (k : ℕ) (p : List ℕ) : Type 0 where
@@ -83,9 +75,9 @@ pub row_fits : (s : Shape) (t : List ℕ) (at i : ℕ) (r : Row) (next : ℕ) �
 unfolding read_row
 row_fits s t at i r next e = go (frame_at t at i) refl e
   where
-    go : (m : Framed) → frame_at t at i ≡ m → in_frame s t at m ≡ read r next → RowFits s r × (i < 1024)
-    go (framed.End end) q d = (payload-fits s t at end r next d, (frame-ok t at i end q).counted)
-    go (framed.Fails w) q d = absurd (no_read d)
+    go : (m : Result ℕ Fault) → frame_at t at i ≡ m → in_frame s t at m ≡ read r next → RowFits s r × (i < 1024)
+    go (Ok end) q d = (payload-fits s t at end r next d, (frame-ok t at i end q).counted)
+    go (Err w) q d = absurd (no_read d)
 
 same_rows : {l l' : List Row} → rows l ≡ rows l' → l ≡ l'
 same_rows e = cc
@@ -144,10 +136,10 @@ module _ (s : Shape) (t : List ℕ) where
   few_rows = omega (arith, list-fits.few)
 
   -- A good list has as many rows as its answer says.
-  pub good-count : (n : ℕ) → check_list s t ≡ Good n → length (rows_of s t) ≡ n
+  pub good-count : (n : ℕ) → check_list s t ≡ Ok n → length (rows_of s t) ≡ n
   unfolding check_list rows_of
   good-count n e = go (read_list s t) e
     where
-      go : (r : ListRead) → verdict r ≡ Good n → length (rows_in r) ≡ n
+      go : (r : ListRead) → verdict r ≡ Ok n → length (rows_in r) ≡ n
       go (rows l) d = cc
       go (refused f at) d = absurd (let z : ◌≡◌ {A = ℕ} 0 1 = cc in omega arith)

@@ -1,9 +1,6 @@
 -- The rows of a list, read one after the other and stored.
-use mathlib.Core.Path.{◌≡◌, refl, sym, ap, ◌∙◌}
-use mathlib.Core.List.{List, [], ◌∷◌, ◌++◌, map, append_assoc, append-nil}
-use Prim.Native.Nat.{ℕ, zero, suc, ◌+◌, ◌-◌, ◌<◌, ◌≤◌}
-use native.Mathlib.Omega.{arith}
-use lib.ListN.{length, set, length-set, length-append, length-map}
+use Rattle.std.proofs.Common.{◌≡◌, refl, sym, ap, ◌∙◌, List, [], ◌∷◌, ◌++◌, map, append_assoc, append-nil, ℕ, zero, suc, ◌+◌, ◌-◌, ◌<◌, ◌≤◌, arith, length, set, length-set, length-append, Ok, Err}
+use lib.ListN.{length-map}
 use Rattle.common.specs.Front.{front}
 use Rattle.common.specs.Store.{put_at}
 use Rattle.common.proofs.ChoiceLaws.{lt-then, lt-else}
@@ -18,8 +15,8 @@ use Rattle.lists.specs.Reading.{read, fails, read_row, ListRead, rows, refused, 
 use Rattle.lists.specs.Loading.{atoms_in, ends, all_products, Memory, memory, Loaded}
 use Rattle.lists.specs.Steps.{Room, RowRead}
 use Rattle.lists.proofs.JoinLaws.{joined-append, joined_snoc, ends-length, ends-append}
+use Rattle.lists.specs.declared.products.Progress.{Progress}
 use Rattle.lists.specs.declared.records.Filled.{Filled}
-use Rattle.lists.specs.declared.reading.ListChecked.TheVariants.{Good, Refused}
 
 behind-none : (r : ListRead) → r ≡ rows_behind [] r
 behind-none (rows l) = refl
@@ -90,21 +87,21 @@ module _ (n : ℕ) (l : List Row) (r : Row) (m : Filled) (old new newer : Memory
 -- ---- turn by turn
 
 -- The walk has read and stored some rows and stands before the next.
-pub record RowsAt (s : Shape) (t : List ℕ) (old new : Memory) (at rows₁ products atoms : ℕ) : Type 0 where
+pub record RowsAt (s : Shape) (t : List ℕ) (old new : Memory) (at : ℕ) (m : Filled) : Type 0 where
   pub so_far : List Row
-  pub many : length so_far ≡ rows₁
+  pub many : length so_far ≡ m.rows
   pub inside : at ≤ length t
-  pub products_are : length (all_products s.channels so_far) ≡ products
-  pub atoms_are : length (atoms_in (all_products s.channels so_far)) ≡ atoms
-  pub room : Room s (record { rows = rows₁; products = products; atoms = atoms }) new
+  pub products_are : length (all_products s.channels so_far) ≡ m.products
+  pub atoms_are : length (atoms_in (all_products s.channels so_far)) ≡ m.atoms
+  pub room : Room s m new
   pub states_same : length new.states ≡ length old.states
   pub starts_same : length new.products.starts ≡ length old.products.starts
   pub atoms_same : length new.products.atoms ≡ length old.products.atoms
-  pub same : read_list s t ≡ rows_behind so_far (read_rows (1025 - rows₁) s t at rows₁)
+  pub same : read_list s t ≡ rows_behind so_far (read_rows (1025 - m.rows) s t at m.rows)
   pub loaded : Loaded s.channels so_far old new
 
 pub rows_start : (s : Shape) (t states starts atoms : List ℕ) → s.channels ≤ 4 → s.messages ≤ 15 → 1024 ≤ length states → 4097 ≤ length starts → 98304 ≤ length atoms
-    → RowsAt s t (memory states (set starts 0 0) atoms) (memory states (set starts 0 0) atoms) 0 0 0 0
+    → RowsAt s t (memory states (set starts 0 0) atoms) (memory states (set starts 0 0) atoms) 0 (record { rows = 0; products = 0; atoms = 0 })
 unfolding read_list joined
 rows_start s t states starts atoms a b x y z =
     record {
@@ -130,29 +127,29 @@ rows_start s t states starts atoms a b x y z =
       loaded = loaded-none s.channels states starts atoms (omega arith);
     }
 
-module _ {s : Shape} {t : List ℕ} {old new : Memory} {at rows₁ products atoms : ℕ} (w : RowsAt s t old new at rows₁ products atoms) where
-  turns : 1025 - rows₁ ≡ suc (1024 - rows₁)
+module _ {s : Shape} {t : List ℕ} {old new : Memory} {at : ℕ} {m : Filled} (w : RowsAt s t old new at m) where
+  turns : 1025 - m.rows ≡ suc (1024 - m.rows)
   turns = omega (arith, w.room.few_rows)
 
-  pub rows_on : at < length t → (newer : Memory) (next filled : ℕ)
-      → RowRead (read_row s t at rows₁) (length t) s.channels at (record { rows = rows₁; products = products; atoms = atoms }) new newer next filled
-      → RowsAt s t old newer next (rows₁ + 1) (products + s.channels) filled
-  rows_on l newer next filled r =
+  pub rows_on : at < length t → (newer : Memory) (next : Progress)
+      → RowRead (read_row s t at m.rows) (length t) s.channels at m new newer next
+      → RowsAt s t old newer next.at (record { rows = m.rows + 1; products = m.products + s.channels; atoms = next.atoms })
+  rows_on l newer next r =
       let n : ℕ = s.channels in
       let so : List Row = w.so_far in
       let row : Row = r.row in
       let p : all_products n (so ++ (row ∷ [])) ≡ all_products n so ++ products_of n row = joined_snoc (products_of n) so row in
       let c : length (products_of n row) ≡ n = listed-length row.products n 0 in
-      let d : length (ends atoms (products_of n row)) ≡ n = ends-length atoms (products_of n row) ∙ c in
-      let few : rows₁ < 1024 = r.counted in
-      let m : Room s (record { rows = rows₁; products = products; atoms = atoms }) new = w.room in
-      let z : 1025 - (rows₁ + 1) ≡ 1024 - rows₁ = omega arith in
+      let d : length (ends m.atoms (products_of n row)) ≡ n = ends-length m.atoms (products_of n row) ∙ c in
+      let few : m.rows < 1024 = r.counted in
+      let q : Room s m new = w.room in
+      let z : 1025 - (m.rows + 1) ≡ 1024 - m.rows = omega arith in
       let u : length newer.states ≡ length new.states =
-      ap length r.states_stored ∙ put-length new.states rows₁ (row.state ∷ []) (omega (arith, m.states_fit)) in
+      ap length r.states_stored ∙ put-length new.states m.rows (row.state ∷ []) (omega (arith, q.states_fit)) in
       let v : length newer.products.starts ≡ length new.products.starts =
-      ap length r.starts_stored ∙ put-length new.products.starts (products + 1) (ends atoms (products_of n row)) (omega (arith, m.starts_fit, m.few_products, m.channels)) in
+      ap length r.starts_stored ∙ put-length new.products.starts (m.products + 1) (ends m.atoms (products_of n row)) (omega (arith, q.starts_fit, q.few_products, q.channels)) in
       let x : length newer.products.atoms ≡ length new.products.atoms =
-      ap length r.atoms_stored ∙ put-length new.products.atoms atoms (atoms_in (products_of n row)) (omega (arith, m.atoms_fit, m.few_atoms, r.many, r.few)) in
+      ap length r.atoms_stored ∙ put-length new.products.atoms m.atoms (atoms_in (products_of n row)) (omega (arith, q.atoms_fit, q.few_atoms, r.many, r.few)) in
       record {
         so_far = so ++ (row ∷ []);
         many = length-append so (row ∷ []) ∙ omega (arith, w.many);
@@ -161,33 +158,33 @@ module _ {s : Shape} {t : List ℕ} {old new : Memory} {at rows₁ products atom
         atoms_are = ap (λ (x : List (List ℕ)). length (atoms_in x)) p ∙ ap length (joined-append (λ (q : List ℕ). q) (all_products n so) (products_of n row))
             ∙ length-append (atoms_in (all_products n so)) (atoms_in (products_of n row)) ∙ omega (arith, w.atoms_are, r.many);
         room = record {
-          channels = m.channels;
-          messages = m.messages;
+          channels = q.channels;
+          messages = q.messages;
           few_rows = omega arith;
-          few_products = omega (arith, m.few_products, m.channels);
-          few_atoms = omega (arith, m.few_atoms, r.few);
-          states_fit = omega (arith, m.states_fit);
-          starts_fit = omega (arith, m.starts_fit);
-          atoms_fit = omega (arith, m.atoms_fit);
+          few_products = omega (arith, q.few_products, q.channels);
+          few_atoms = omega (arith, q.few_atoms, r.few);
+          states_fit = omega (arith, q.states_fit);
+          starts_fit = omega (arith, q.starts_fit);
+          atoms_fit = omega (arith, q.atoms_fit);
         };
         states_same = u ∙ w.states_same;
         starts_same = v ∙ w.starts_same;
         atoms_same = x ∙ w.atoms_same;
-        same = w.same ∙ rw turns (ap (rows_behind so) (turn-next s t (1024 - rows₁) at rows₁ row next l r.whole))
-            ∙ behind-both so (row ∷ []) (read_rows (1024 - rows₁) s t next (rows₁ + 1))
-            ∙ ap (λ (k : ℕ). rows_behind (so ++ (row ∷ [])) (read_rows k s t next (rows₁ + 1))) (sym z);
-        loaded = loaded-more n so row (record { rows = rows₁; products = products; atoms = atoms }) old new newer w.loaded w.many w.products_are w.atoms_are
+        same = w.same ∙ rw turns (ap (rows_behind so) (turn-next s t (1024 - m.rows) at m.rows row next.at l r.whole))
+            ∙ behind-both so (row ∷ []) (read_rows (1024 - m.rows) s t next.at (m.rows + 1))
+            ∙ ap (λ (k : ℕ). rows_behind (so ++ (row ∷ [])) (read_rows k s t next.at (m.rows + 1))) (sym z);
+        loaded = loaded-more n so row m old new newer w.loaded w.many w.products_are w.atoms_are
             r.states_stored r.starts_stored r.atoms_stored;
       }
 
-  pub rows-fail : at < length t → (f : Fault) → read_row s t at rows₁ ≡ fails f → Refused f at ≡ check_list s t
+  pub rows-fail : at < length t → (f : Fault) → read_row s t at m.rows ≡ fails f → Err (record { fault = f; at = at }) ≡ check_list s t
   unfolding check_list
-  rows-fail l f e = rw (w.same, turns, turn-fails s t (1024 - rows₁) at rows₁ f l e)
+  rows-fail l f e = rw (w.same, turns, turn-fails s t (1024 - m.rows) at m.rows f l e)
 
   rows_are : length t ≤ at → read_list s t ≡ rows w.so_far
-  rows_are l = w.same ∙ ap (rows_behind w.so_far) (turn-done s t (1025 - rows₁) at rows₁ l) ∙ ap rows (append-nil w.so_far)
+  rows_are l = w.same ∙ ap (rows_behind w.so_far) (turn-done s t (1025 - m.rows) at m.rows l) ∙ ap rows (append-nil w.so_far)
 
-  pub rows-good : length t ≤ at → Good rows₁ ≡ check_list s t
+  pub rows-good : length t ≤ at → Ok m.rows ≡ check_list s t
   unfolding check_list
   rows-good l = rw (rows_are l, w.many)
 

@@ -1,9 +1,5 @@
 -- Things that are read one after the other: turn by turn, what holds of each, and reading back what was written.
-use mathlib.Core.Path.{◌≡◌, refl, sym, ap, subst, ◌∙◌}
-use mathlib.Core.List.{List, [], ◌∷◌, ◌++◌, append_assoc, append-nil}
-use Prim.Native.Nat.{ℕ, zero, suc, ◌+◌, ◌-◌, ◌<◌, ◌≤◌}
-use native.Mathlib.Omega.{arith}
-use lib.ListN.{length, length-append}
+use Rattle.std.proofs.Common.{◌≡◌, refl, sym, ap, subst, ◌∙◌, List, [], ◌∷◌, ◌++◌, append_assoc, append-nil, ℕ, zero, suc, ◌+◌, ◌-◌, ◌<◌, ◌≤◌, arith, length, length-append}
 use Rattle.common.specs.Each.{Each}
 use Rattle.common.proofs.StandLaws.{Stands, stands-first, stands-behind, stands-in}
 use Rattle.table.specs.declared.faults.Fault.{Fault}

@@ -1,9 +1,5 @@
 -- The products of a row, read one after the other and stored.
-use mathlib.Core.Path.{◌≡◌, refl, sym, ap, ◌∙◌}
-use mathlib.Core.List.{List, [], ◌∷◌, ◌++◌}
-use Prim.Native.Nat.{ℕ, ◌+◌, ◌*◌, ◌<◌, ◌≤◌}
-use native.Mathlib.Omega.{arith}
-use lib.ListN.{length, set, length-set, length-append}
+use Rattle.std.proofs.Common.{◌≡◌, refl, sym, ap, ◌∙◌, List, [], ◌∷◌, ◌++◌, ℕ, ◌+◌, ◌*◌, ◌<◌, ◌≤◌, arith, length, set, length-set, length-append}
 use Rattle.common.specs.Store.{put_at}
 use Rattle.common.proofs.ChoiceLaws.{lt-then, lt-else}
 use Rattle.common.proofs.StoreLaws.{put-none, put_next, put_then, put-length}
@@ -16,6 +12,10 @@ use Rattle.lists.specs.Steps.{AtomsRead, ProductRead, ProductsRead}
 use Rattle.lists.proofs.ManyLaws.{Reading, reading-starts, reading-on, reading-fails, reading-ends}
 use Rattle.lists.proofs.JoinLaws.{joined_snoc, ends-length, ends_snoc}
 use Rattle.lists.specs.declared.products.Frame.{Frame}
+use Rattle.lists.specs.declared.products.Progress.{Progress}
+
+abbrev progress : ℕ → ℕ → Progress
+progress at atoms = record { at = at; atoms = atoms }
 
 -- A product is its atoms, where its count is there and is at most 24.
 module _ (f : Frame) (t : List ℕ) (from count : ℕ) (e : count ≡ byte_at t from) (l : from < f.end) (m : count ≤ 24) where
@@ -27,7 +27,7 @@ module _ (f : Frame) (t : List ℕ) (from count : ℕ) (e : count ≡ byte_at t 
   product-fails q d = product-atoms ∙ d
 
   pub product-read : (used : ℕ) (old new : List ℕ) → AtomsRead (read_many (read_atom f t) count (from + 1)) f.end (from + 1 + 2 * count) count used old new
-      → ProductRead (read_product f t from) f.end from used old new (from + 1 + 2 * count) (used + count)
+      → ProductRead (read_product f t from) f.end (progress from used) old new (progress (from + 1 + 2 * count) (used + count))
   product-read used old new r =
       record {
         product = r.atoms;
@@ -40,24 +40,24 @@ module _ (f : Frame) (t : List ℕ) (from count : ℕ) (e : count ≡ byte_at t 
       }
 
 -- Of so many channels c have their products read and stored, the first as product number `first`; n atoms are stored.
-pub record ProductsAt (f : Frame) (t : List ℕ) (from channels first used : ℕ) (old new : Products) (c at n : ℕ) : Type 0 where
+pub record ProductsAt (f : Frame) (t : List ℕ) (from : Progress) (channels first : ℕ) (old new : Products) (c : ℕ) (at : Progress) : Type 0 where
   pub products : List (List ℕ)
-  pub so_far : Reading (read_product f t) channels from products c at
-  pub onward : from ≤ at
-  pub inside : at ≤ f.end
-  pub many : n ≡ used + length (atoms_in products)
-  pub few : n ≤ used + 24 * c
+  pub so_far : Reading (read_product f t) channels from.at products c at.at
+  pub onward : from.at ≤ at.at
+  pub inside : at.at ≤ f.end
+  pub many : at.atoms ≡ from.atoms + length (atoms_in products)
+  pub few : at.atoms ≤ from.atoms + 24 * c
   pub starts_same : length new.starts ≡ length old.starts
   pub atoms_same : length new.atoms ≡ length old.atoms
-  pub starts_stored : new.starts ≡ put_at old.starts (first + 1) (ends used products)
-  pub atoms_stored : new.atoms ≡ put_at old.atoms used (atoms_in products)
+  pub starts_stored : new.starts ≡ put_at old.starts (first + 1) (ends from.atoms products)
+  pub atoms_stored : new.atoms ≡ put_at old.atoms from.atoms (atoms_in products)
 
-pub products-start : (f : Frame) (t : List ℕ) (from channels first used : ℕ) (old : Products) → from ≤ f.end → ProductsAt f t from channels first used old old 0 from used
+pub products-start : (f : Frame) (t : List ℕ) (from : Progress) (channels first : ℕ) (old : Products) → from.at ≤ f.end → ProductsAt f t from channels first old old 0 from
 unfolding ends joined
-products-start f t from channels first used old l =
+products-start f t from channels first old l =
     record {
       products = [];
-      so_far = reading-starts (read_product f t) channels from;
+      so_far = reading-starts (read_product f t) channels from.at;
       onward = omega arith;
       inside = l;
       many = omega arith;
@@ -65,14 +65,17 @@ products-start f t from channels first used old l =
       starts_same = refl;
       atoms_same = refl;
       starts_stored = put-none old.starts (first + 1);
-      atoms_stored = put-none old.atoms used;
+      atoms_stored = put-none old.atoms from.atoms;
     }
 
-module _ {f : Frame} {t : List ℕ} {from channels first used : ℕ} {old new : Products} {c at n : ℕ} (w : ProductsAt f t from channels first used old new c at n) where
-  pub products-on : c < channels → channels ≤ 4 → used + 96 ≤ length old.atoms → first + 5 ≤ length old.starts
-      → (newer : List ℕ) (next filled : ℕ) → ProductRead (read_product f t at) f.end at n new.atoms newer next filled
-      → ProductsAt f t from channels first used old (record { starts = set new.starts (first + c + 1) filled; atoms = newer }) (c + 1) next filled
-  products-on l m a b newer next filled r =
+module _ {f : Frame} {t : List ℕ} {from : Progress} {channels first : ℕ} {old new : Products} {c : ℕ} {at : Progress} (w : ProductsAt f t from channels first old new c at) where
+  pub products-on : c < channels → channels ≤ 4 → from.atoms + 96 ≤ length old.atoms → first + 5 ≤ length old.starts
+      → (newer : List ℕ) (next : Progress) → ProductRead (read_product f t at.at) f.end at new.atoms newer next
+      → ProductsAt f t from channels first old (record { starts = set new.starts (first + c + 1) next.atoms; atoms = newer }) (c + 1) next
+  products-on l m a b newer next r =
+      let used : ℕ = from.atoms in
+      let n : ℕ = at.atoms in
+      let filled : ℕ = next.atoms in
       let ps : List (List ℕ) = w.products in
       let p : List ℕ = r.product in
       let k : length ps ≡ c = w.so_far.many in
@@ -82,7 +85,7 @@ module _ {f : Frame} {t : List ℕ} {from channels first used : ℕ} {old new : 
       let u : n ≡ used + length (atoms_in ps) = w.many in
       record {
         products = ps ++ (p ∷ []);
-        so_far = reading-on (read_product f t) w.so_far l p next r.whole;
+        so_far = reading-on (read_product f t) w.so_far l p next.at r.whole;
         onward = omega (arith, w.onward, r.onward);
         inside = r.inside;
         many = omega (arith, ap length j, length-append (atoms_in ps) p);
@@ -96,10 +99,10 @@ module _ {f : Frame} {t : List ℕ} {from channels first used : ℕ} {old new : 
             ∙ put_then old.atoms used (atoms_in ps) n p (sym u) (omega (arith, w.few)) ∙ ap (put_at old.atoms used) (sym j);
       }
 
-  pub products-fail : c < channels → (q : Fault) → read_product f t at ≡ fails q → read_many (read_product f t) channels from ≡ fails q
+  pub products-fail : c < channels → (q : Fault) → read_product f t at.at ≡ fails q → read_many (read_product f t) channels from.at ≡ fails q
   products-fail l q e = reading-fails (read_product f t) w.so_far l q e
 
-  pub products-end : channels ≤ c → channels ≤ 4 → ProductsRead (read_many (read_product f t) channels from) f.end from first used old new at n
+  pub products-end : channels ≤ c → channels ≤ 4 → ProductsRead (read_many (read_product f t) channels from.at) f.end from first old new at
   products-end l m =
       record {
         products = w.products;

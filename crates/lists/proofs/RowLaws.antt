@@ -1,15 +1,6 @@
 -- One row: what its frame and its payload decide, and what reading it stores.
-use mathlib.Core.Path.{◌≡◌, refl, sym, ap, subst, ◌∙◌}
-use mathlib.Core.Bool.{true, false}
-use mathlib.Core.Logic.{◌⊎◌, inl, inr}
-use mathlib.Core.List.{List, [], ◌∷◌}
-use Prim.Native.Nat.{ℕ, suc, ◌+◌, ◌<◌, ◌≤◌}
-use native.Mathlib.Omega.{arith}
-use lib.ListN.{length, get_or, set}
-use lib.Dec.{ltb}
-use borrow.Author.Tests.{ltb-true, ltb-false}
+use Rattle.std.proofs.Common.{◌≡◌, refl, sym, ap, ◌∙◌, List, [], ◌∷◌, ℕ, suc, ◌+◌, ◌<◌, ◌≤◌, arith, length, get_or, set, Result, Ok, Err}
 use Rattle.common.specs.Choice.{if_lt}
-use Rattle.common.proofs.BoolLaws.{either}
 use Rattle.common.proofs.ChoiceLaws.{lt-then, lt-else}
 use Rattle.common.proofs.StoreLaws.{put_one}
 use Rattle.rows.specs.Rows.{Row}
@@ -22,27 +13,26 @@ use Rattle.table.specs.declared.checks.Shape.{Shape}
 use Rattle.lists.specs.Format.{products_of}
 use Rattle.lists.specs.Reading.{Read, read, fails, and_then, read_many, read_product, row_with, frame_of, read_payload, frame_at, read_row}
 use Rattle.lists.specs.Loading.{Products, Memory}
-use Rattle.lists.specs.Steps.{ProductsRead, RowRead, RowTold, ProductsTold, whole_step}
+use Rattle.lists.specs.Steps.{ProductsRead, RowRead, RowTold}
 use Rattle.lists.proofs.ManyLaws.{many-each}
-use Rattle.lists.specs.declared.products.Step.{Step}
-use Rattle.lists.specs.declared.products.Step.TheVariants as step
+use Rattle.lists.specs.declared.products.Progress.{Progress}
 use Rattle.lists.specs.declared.records.Filled.{Filled}
-use Rattle.lists.specs.declared.records.Framed.TheVariants as framed
 
--- The products of a row that was made with them.
-listed-get : (ps : List (List ℕ)) (g : ℕ → List ℕ) (i : ℕ) → ((j : ℕ) → g (i + j) ≡ get_or ps j []) → listed g (length ps) i ≡ ps
+-- What a function gives, where it gives the elements of a list.
+pub listed-get : {A : Type 0} (d : A) (ps : List A) (g : ℕ → A) (i : ℕ) → ((j : ℕ) → g (i + j) ≡ get_or ps j d) → listed g (length ps) i ≡ ps
 unfolding listed
-listed-get [] g i h = refl
-listed-get (p ∷ ps) g i h =
+listed-get d [] g i h = refl
+listed-get {A} d (p ∷ ps) g i h =
     let z : i ≡ i + 0 = omega arith in
     let first : g i ≡ p = ap g z ∙ h 0 in
-    rw first (ap (λ (l : List (List ℕ)). p ∷ l) (listed-get ps g (i + 1) (λ j. ap g (next j) ∙ h (suc j))))
+    rw first (ap (λ (l : List A). p ∷ l) (listed-get d ps g (i + 1) (λ j. ap g (next j) ∙ h (suc j))))
   where
     next : (j : ℕ) → i + 1 + j ≡ i + suc j
     next j = omega arith
 
+-- The products of a row that was made with them.
 pub products-with : (n state : ℕ) (ps : List (List ℕ)) → length ps ≡ n → products_of n (row_with state ps) ≡ ps
-products-with n state ps e = rw (← e) (listed-get ps (λ c. get_or ps c []) 0 (λ j. ap (λ (k : ℕ). get_or ps k []) (zero-plus j)))
+products-with n state ps e = rw (← e) (listed-get [] ps (λ c. get_or ps c []) 0 (λ j. ap (λ (k : ℕ). get_or ps k []) (zero-plus j)))
   where
     zero-plus : (j : ℕ) → 0 + j ≡ j
     zero-plus j = omega arith
@@ -50,21 +40,6 @@ products-with n state ps e = rw (← e) (listed-get ps (λ c. get_or ps c []) 0 
 -- As many products are read as there are channels.
 pub many-products : (one : ℕ → Read (List ℕ)) (n from : ℕ) (ps : List (List ℕ)) (next : ℕ) → read_many one n from ≡ read ps next → length ps ≡ n
 many-products one n from ps next e = (many-each one (λ p. Unit {0}) (λ a x b q. tt) n from ps next e).0
-
--- A step that must go up to a place.
-module _ (x : Step) (end : ℕ) where
-  pub whole-fails : (q : Fault) → x ≡ step.Fails q → step.Fails q ≡ whole_step x end
-  unfolding whole_step
-  whole-fails q e = rw e
-
-  module _ (next n : ℕ) (e : x ≡ step.Next next n) where
-    pub whole-over : next < end → step.Fails Length ≡ whole_step x end
-    unfolding whole_step
-    whole-over l = rw e (lt-then _ _ _ _ l refl)
-
-    pub whole-next : end ≤ next → step.Next next n ≡ whole_step x end
-    unfolding whole_step
-    whole-next l = rw e (lt-else _ _ _ _ l refl)
 
 -- A payload whose state is there and is one of the table's.
 module _ (s : Shape) (t : List ℕ) (at end state : ℕ) (e : state ≡ number_at t (at + 4)) (l : at + 6 ≤ end) (m : state < s.states) where
@@ -92,15 +67,15 @@ module _ (s : Shape) (t : List ℕ) (at end state : ℕ) (e : state ≡ number_a
   payload-read ps next d k = payload-is ∙ ap rest d ∙ sym (lt-else _ _ _ _ k refl)
 
   -- What is stored of a row with no bytes over.
-  pub row_read : (f : Filled) (old : Memory) (new : Products) (next n : ℕ) → end ≤ length t → f.rows < 1024 → f.rows < length old.states → end ≤ next
-      → ProductsRead products end (at + 6) f.products f.atoms old.products new next n
-      → RowRead (read_payload s t at end) (length t) s.channels at f old (record { states = set old.states f.rows state; products = new }) next n
-  row_read f old new next n i c j k r =
+  pub row_read : (f : Filled) (old : Memory) (new : Products) (next : Progress) → end ≤ length t → f.rows < 1024 → f.rows < length old.states → end ≤ next.at
+      → ProductsRead products end (record { at = at + 6; atoms = f.atoms }) f.products old.products new next
+      → RowRead (read_payload s t at end) (length t) s.channels at f old (record { states = set old.states f.rows state; products = new }) next
+  row_read f old new next i c j k r =
       let ps : List (List ℕ) = r.products in
-      let z : products_of s.channels (row_with state ps) ≡ ps = products-with s.channels state ps (many-products _ _ _ ps next r.whole) in
+      let z : products_of s.channels (row_with state ps) ≡ ps = products-with s.channels state ps (many-products _ _ _ ps next.at r.whole) in
       record {
         row = row_with state ps;
-        whole = payload-read ps next r.whole k;
+        whole = payload-read ps next.at r.whole k;
         many = rw z r.many;
         few = r.few;
         counted = c;
@@ -111,25 +86,6 @@ module _ (s : Shape) (t : List ℕ) (at end state : ℕ) (e : state ≡ number_a
         atoms_stored = rw z r.atoms_stored;
       }
 
-  -- What the step past the products decides.
-  pub row-whole : (f : Filled) (old : Memory) (new : Products) → end ≤ length t → f.rows < 1024 → f.rows < length old.states
-      → (x : Step) → ProductsTold x products end (at + 6) f.products f.atoms old.products new → (r : Step) → r ≡ whole_step x end
-      → RowTold r (read_payload s t at end) (length t) s.channels at f old (record { states = set old.states f.rows state; products = new })
-  unfolding whole_step RowTold
-  row-whole f old new i c j (step.Fails q) h r d = rw d (payload-fails q h)
-  row-whole f old new i c j (step.Next next n) h r d = rw d (go (either (ltb next end)))
-    where
-      Told : Step → Type 0
-      Told y = RowTold y (read_payload s t at end) (length t) s.channels at f old (record { states = set old.states f.rows state; products = new })
-
-      go : (ltb next end ≡ true) ⊎ (ltb next end ≡ false) → Told (if_lt next end (step.Fails Length) (step.Next next n))
-      go (inl k) =
-          let b : next < end = ltb-true next end k in
-          subst Told (lt-then _ _ _ _ b refl) (payload-over h.products next h.whole b)
-      go (inr k) =
-          let b : end ≤ next = ltb-false next end k in
-          subst Told (lt-else _ _ _ _ b refl) (row_read f old new next n i c j b h)
-
 -- A frame that passes: the payload is there, and there are not too many rows.
 pub record FrameOk (t : List ℕ) (at i end : ℕ) : Type 0 where
   pub kind_is : number_at t (at + 2) ≡ 16
@@ -137,10 +93,10 @@ pub record FrameOk (t : List ℕ) (at i end : ℕ) : Type 0 where
   pub inside : end ≤ length t
   pub counted : i < 1024
 
-no_end : {q : Fault} {end : ℕ} → framed.Fails q ≡ framed.End end → ⊥
+no_end : {q : Fault} {end : ℕ} → ◌≡◌ {A = Result ℕ Fault} (Err q) (Ok end) → ⊥
 no_end e = let z : ◌≡◌ {A = ℕ} 0 1 = cc in omega arith
 
-pub frame-ok : (t : List ℕ) (at i end : ℕ) → frame_at t at i ≡ framed.End end → FrameOk t at i end
+pub frame-ok : (t : List ℕ) (at i end : ℕ) → frame_at t at i ≡ Ok end → FrameOk t at i end
 unfolding frame_at
 frame-ok t at i end e =
     let a = below_fails no_end _ _ _ e in
@@ -151,14 +107,14 @@ frame-ok t at i end e =
     record { kind_is = b.0; end_is = sym z; inside = omega arith; counted = d.0 }
 
 module _ (s : Shape) (t : List ℕ) (at i : ℕ) where
-  pub row-unframed : (q : Fault) → frame_at t at i ≡ framed.Fails q → read_row s t at i ≡ fails q
+  pub row-unframed : (q : Fault) → frame_at t at i ≡ Err q → read_row s t at i ≡ fails q
   unfolding read_row
   row-unframed q e = rw e
 
-  pub row-framed : (end : ℕ) → frame_at t at i ≡ framed.End end → read_row s t at i ≡ read_payload s t at end
+  pub row-framed : (end : ℕ) → frame_at t at i ≡ Ok end → read_row s t at i ≡ read_payload s t at end
   unfolding read_row
   row-framed end e = rw e
 
-  pub row_told : (end : ℕ) → frame_at t at i ≡ framed.End end → (r : Step) (size channels : ℕ) (m : Filled) (old new : Memory)
+  pub row_told : (end : ℕ) → frame_at t at i ≡ Ok end → (r : Result Progress Fault) (size channels : ℕ) (m : Filled) (old new : Memory)
       → RowTold r (read_payload s t at end) size channels at m old new → RowTold r (read_row s t at i) size channels at m old new
   row_told end e r size channels m old new h = rw (row-framed end e) h

@@ -1,12 +1,10 @@
 -- The answer in the numbers that every caller sees.
-use Rattle.std.specs.Prelude.{List, ℕ}
+use Rattle.std.specs.Prelude.{List, ℕ, Ok, Err}
 use Rattle.common.specs.Refusal.{Refusal}
 use Rattle.table.specs.Answers.{number_of, place_of}
 use Rattle.table.specs.declared.faults.Fault.{Fault}
 use Rattle.table.specs.declared.checks.Shape.{Shape}
-use Rattle.lists.specs.Reading.{check_list}
-use Rattle.lists.specs.declared.reading.ListChecked.{ListChecked}
-use Rattle.lists.specs.declared.reading.ListChecked.TheVariants.{Good, Refused}
+use Rattle.lists.specs.Reading.{ListChecked, check_list}
 
 -- The refusal for a fault of the record that starts at a place. The list is input 1.
 abbrev pub list_refusal : Fault → ℕ → Refusal
@@ -19,8 +17,8 @@ pub data ListAnswer : Type 0 where
 
 -- What an answer of the reader says.
 abbrev pub answer : ListChecked → ListAnswer
-answer (Good n) = good n
-answer (Refused f at) = refused (list_refusal f at)
+answer (Ok n) = good n
+answer (Err r) = refused (list_refusal r.fault r.at)
 
 -- What the reader says of a list.
 unfoldable pub list_answer : Shape → List ℕ → ListAnswer

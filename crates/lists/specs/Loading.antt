@@ -1,6 +1,6 @@
 -- What reading a list leaves in lent memory: the rows' states; the atoms of all products, one after the other; and where each product's atoms
 -- begin, so that product k stands from starts[k] up to starts[k + 1].
-use Rattle.std.specs.Prelude.{◌≡◌, List, [], ◌∷◌, map, ℕ, ◌+◌, ◌*◌, ◌<◌, ◌≤◌, length, get_or}
+use Rattle.std.specs.Prelude.{◌≡◌, List, [], ◌∷◌, map, ℕ, ◌+◌, ◌*◌, ◌<◌, ◌≤◌, length, get_or, Ok, Err}
 use Rattle.std.proofs.Math.Option.{some}
 use Rattle.std.proofs.Math.ListN.{get_elem?}
 use Rattle.common.specs.Part.{part}
@@ -8,9 +8,7 @@ use Rattle.common.specs.Front.{front}
 use Rattle.rows.specs.Rows.{Row}
 use Rattle.table.specs.declared.checks.Shape.{Shape}
 use Rattle.lists.specs.Format.{joined, products_of}
-use Rattle.lists.specs.Reading.{rows_of}
-use Rattle.lists.specs.declared.reading.ListChecked.{ListChecked}
-use Rattle.lists.specs.declared.reading.ListChecked.TheVariants as checked
+use Rattle.lists.specs.Reading.{ListChecked, rows_of}
 
 -- The atoms of products, one after the other.
 abbrev pub atoms_in : List (List ℕ) → List ℕ
@@ -49,8 +47,8 @@ pub record Loaded (n : ℕ) (l : List Row) (old new : Memory) : Type 0 where
 
 -- A good list's rows are left in the memory.
 abbrev pub ListTold : ListChecked → Shape → List ℕ → Memory → Memory → Type 0
-ListTold (checked.Good n) s t old new = Loaded s.channels (rows_of s t) old new
-ListTold (checked.Refused f at) s t old new = Unit {0}
+ListTold (Ok n) s t old new = Loaded s.channels (rows_of s t) old new
+ListTold (Err r) s t old new = Unit {0}
 
 -- Product number k in the memory is p.
 pub record ProductAt (w : Products) (k : ℕ) (p : List ℕ) : Type 0 where

@@ -1,17 +1,14 @@
 -- The list reader: all that the rules say of a list, in the order of the tests. Fields are met in file order, and each is tested when it is met.
-use Rattle.std.specs.Prelude.{List, [], ◌∷◌, ◌++◌, ℕ, zero, suc, ◌+◌, ◌-◌, length, get_or}
+use Rattle.std.specs.Prelude.{List, [], ◌∷◌, ◌++◌, ℕ, zero, suc, ◌+◌, ◌-◌, length, get_or, Result, Ok, Err}
 use Rattle.common.specs.Choice.{if_lt, if_eq, if_true}
 use Rattle.atoms.specs.Masks.{atom_test}
 use Rattle.rows.specs.Rows.{Row}
 use Rattle.reader.specs.Bytes.{byte_at, number_at}
 use Rattle.table.specs.declared.faults.Fault.{Fault}
 use Rattle.table.specs.declared.faults.Fault.TheVariants.{Cut, Kind, Length, Count, Field}
+use Rattle.table.specs.declared.faults.Refusal.{Refusal}
 use Rattle.table.specs.declared.checks.Shape.{Shape}
 use Rattle.lists.specs.declared.products.Frame.{Frame}
-use Rattle.lists.specs.declared.records.Framed.{Framed}
-use Rattle.lists.specs.declared.records.Framed.TheVariants as framed
-use Rattle.lists.specs.declared.reading.ListChecked.{ListChecked}
-use Rattle.lists.specs.declared.reading.ListChecked.TheVariants.{Good, Refused}
 
 -- What reading finds: a thing and the place behind it, or a fault.
 pub data Read (A : Type 0) : Type 0 where
@@ -64,18 +61,18 @@ read_payload s t at end =
     (fails (Field 4)))
 
 -- The tests that each record has, where i rows came before: four bytes there (1), kind (2), payload there (1), at most 1,024 rows (6).
-unfoldable pub frame_at : List ℕ → ℕ → ℕ → Framed
+unfoldable pub frame_at : List ℕ → ℕ → ℕ → Result ℕ Fault
 frame_at t at i =
-    if_lt (length t) (at + 4) (framed.Fails Cut)
+    if_lt (length t) (at + 4) (Err Cut)
     (if_eq (number_at t (at + 2)) 16
-    (if_lt (length t) (at + 4 + number_at t at) (framed.Fails Cut)
-    (if_lt i 1024 (framed.End (at + 4 + number_at t at)) (framed.Fails Count)))
-    (framed.Fails Kind))
+    (if_lt (length t) (at + 4 + number_at t at) (Err Cut)
+    (if_lt i 1024 (Ok (at + 4 + number_at t at)) (Err Count)))
+    (Err Kind))
 
 -- What a frame decides, and the payload in it.
-abbrev pub in_frame : Shape → List ℕ → ℕ → Framed → Read Row
-in_frame s t at (framed.End end) = read_payload s t at end
-in_frame s t at (framed.Fails f) = fails f
+abbrev pub in_frame : Shape → List ℕ → ℕ → Result ℕ Fault → Read Row
+in_frame s t at (Ok end) = read_payload s t at end
+in_frame s t at (Err f) = fails f
 
 -- The row whose record stands at a place, where i rows came before.
 unfoldable pub read_row : Shape → List ℕ → ℕ → ℕ → Read Row
@@ -103,10 +100,13 @@ read_rows (suc k) s t at i =
 unfoldable pub read_list : Shape → List ℕ → ListRead
 read_list s t = read_rows 1025 s t 0 0
 
--- The answer: how many rows, or the refusal.
+-- The answer to a list: how many rows it has, or the first fault and the start of the record that has it.
+abbrev pub ListChecked : Type 0
+ListChecked = Result ℕ Refusal
+
 abbrev pub verdict : ListRead → ListChecked
-verdict (rows l) = Good (length l)
-verdict (refused f at) = Refused f at
+verdict (rows l) = Ok (length l)
+verdict (refused f at) = Err (record { fault = f; at = at })
 
 -- The answer to a list: the one for each list of bytes.
 unfoldable pub check_list : Shape → List ℕ → ListChecked

@@ -8,5 +8,5 @@ pub mod reading;
 pub mod records;
 
 // What the later parts name.
-pub use crate::reading::{ListChecked, read_list};
+pub use crate::reading::read_list;
 pub use crate::records::product_number;

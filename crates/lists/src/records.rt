@@ -2,68 +2,47 @@
 ghost use Rattle.std.specs.Prelude.{◌≡◌, ◌+◌, ◌*◌, ◌<◌, ◌≤◌, length};
 ghost use Rattle.lists.specs.Reading.{frame_at, read_payload, read_row};
 ghost use Rattle.lists.specs.Loading.{memory};
-ghost use Rattle.lists.specs.Steps.{Room, RowTold, whole_step};
+ghost use Rattle.lists.specs.Steps.{Room, RowTold};
 
-use crate::products::{Frame, Step, read_products};
+use crate::products::{Frame, Progress, read_products};
 use reader::numbers::number_at;
 use table::{Fault, Shape};
 
 // How much of the memory is filled: so many rows, products of rows, and atoms of products.
-#[derive(Clone, Copy)]
+#[derive(Clone, Copy, Debug, PartialEq, Eq)]
 pub struct Filled {
     pub rows: usize,
     pub products: usize,
     pub atoms: usize,
 }
 
-// The frame of a record: the end of its payload, or a fault.
-#[derive(Clone, Copy)]
-pub enum Framed {
-    End(usize),
-    Fails(Fault),
-}
-
 // The tests that each list record has before its payload is looked at, where i rows came before: four bytes there, kind, payload there, count.
 // Inner.
-fn frame_at(list: &[u8], at: usize, i: usize) -> Framed
+fn frame_at(list: &[u8], at: usize, i: usize) -> Result<usize, Fault>
     requires { at ≤ length list.now }
     ensures { result ≡ frame_at list.now at i }
 {
     let left = list.len() - at;
     if left < 4 {
-        return Framed::Fails(Fault::Cut); // in its first four bytes
+        return Err(Fault::Cut); // in its first four bytes
     }
     let size = number_at(list, at);
     let kind = number_at(list, at + 2);
     let payload = left - 4;
     if kind != 16 {
-        return Framed::Fails(Fault::Kind);
+        return Err(Fault::Kind);
     }
     if payload < size {
-        return Framed::Fails(Fault::Cut); // in its payload
+        return Err(Fault::Cut); // in its payload
     }
     if 1024 <= i {
-        return Framed::Fails(Fault::Count);
+        return Err(Fault::Count);
     }
-    Framed::End(at + 4 + size)
+    Ok(at + 4 + size)
 }
 
-// A step that must go up to a place: short of it there are bytes over. Inner.
-fn whole(step: Step, end: usize) -> Step
-    ensures { result ≡ whole_step step end }
-{
-    match step {
-        Step::Fails(fault) => Step::Fails(fault),
-        Step::Next { at, atoms } => {
-            if at < end {
-                return Step::Fails(Fault::Length);
-            }
-            Step::Next { at, atoms }
-        }
-    }
-}
-
-// Reads the row in the payload that ends at a place: state, products, and nothing over. Inner.
+// Reads the row in the payload that ends at a place: state, products, and nothing over. The three lent slices stay apart: a struct of them would
+// add, to each function that it goes through, the promise that it still holds the same three. Inner.
 fn read_payload(
     list: &[u8],
     s: Shape,
@@ -73,35 +52,32 @@ fn read_payload(
     states: &mut [usize],
     starts: &mut [usize],
     atoms: &mut [u16],
-) -> Step
+) -> Result<Progress, Fault>
     requires { (at + 4 ≤ end) × (end ≤ length list.now) × (m.rows < 1024) × Room s m (memory states.old starts.old atoms.old) }
     ensures { RowTold result (read_payload s list.now at end) (length list.now) s.channels at m (memory states.old starts.old atoms.old) (memory states.new starts.new atoms.new) }
 {
     if end - at < 6 {
-        return Step::Fails(Fault::Length);
+        return Err(Fault::Length);
     }
     let state = number_at(list, at + 4);
     if s.states <= state {
-        return Step::Fails(Fault::Field(4));
+        return Err(Fault::Field(4));
     }
-    let row = m.rows;
-    states[row] = state;
+    states[m.rows] = state;
     let f = Frame {
         at,
         end,
         messages: s.messages,
     };
-    let step = read_products(
-        list,
-        f,
-        at + 6,
-        s.channels,
-        m.products,
-        m.atoms,
-        starts,
-        atoms,
-    );
-    whole(step, end)
+    let from = Progress {
+        at: at + 6,
+        atoms: m.atoms,
+    };
+    let next = read_products(list, f, from, s.channels, m.products, starts, atoms)?;
+    if next.at < end {
+        return Err(Fault::Length);
+    }
+    Ok(next)
 }
 
 // Reads the row whose record stands at a place. Inner.
@@ -113,18 +89,12 @@ pub fn read_row(
     states: &mut [usize],
     starts: &mut [usize],
     atoms: &mut [u16],
-) -> Step
+) -> Result<Progress, Fault>
     requires { (at ≤ length list.now) × Room s m (memory states.old starts.old atoms.old) }
     ensures { RowTold result (read_row s list.now at m.rows) (length list.now) s.channels at m (memory states.old starts.old atoms.old) (memory states.new starts.new atoms.new) }
 {
-    match frame_at(list, at, m.rows) {
-        Framed::Fails(fault) => {
-            return Step::Fails(fault);
-        }
-        Framed::End(end) => {
-            return read_payload(list, s, at, end, m, states, starts, atoms);
-        }
-    }
+    let end = frame_at(list, at, m.rows)?;
+    read_payload(list, s, at, end, m, states, starts, atoms)
 }
 
 // The number of the product of channel c of row i. Inner.

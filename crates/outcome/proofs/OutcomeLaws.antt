@@ -1,40 +1,24 @@
 -- A product copied to the front of a buffer, and what an operation makes of it there.
-use mathlib.Core.Path.{◌≡◌, sym, ap, subst, ◌∙◌}
-use mathlib.Core.List.{List, [], ◌∷◌, ◌++◌}
-use mathlib.Core.Option.{none, some}
-use Prim.Native.Nat.{ℕ, ◌+◌, ◌-◌, ◌≤◌}
-use native.Mathlib.Omega.{arith}
-use lib.ListN.{length}
-use Rattle.common.specs.Front.{front}
+use Rattle.std.proofs.Common.{◌≡◌, refl, sym, ap, ◌∙◌, List, [], ◌∷◌, ◌++◌, ℕ, ◌≤◌, arith, length, drop, take_at}
+use Rattle.std.proofs.Math.Option.{some}
 use Rattle.common.specs.Part.{part}
-use Rattle.common.proofs.FrontLaws.{front-part}
-use Rattle.common.proofs.PartLaws.{part_length}
+use Rattle.common.proofs.PartLaws.{part-take}
 use Rattle.atoms.specs.Normal.{normal}
 use Rattle.atoms.specs.Receive.{received}
-use Rattle.atoms.specs.Ranges.{left_of, Within, Added}
-use Rattle.atoms.specs.declared.products.Left.{Left}
-use Rattle.atoms.specs.declared.products.Left.TheVariants as left
+use Rattle.atoms.specs.Ranges.{Added}
 use Rattle.outcome.specs.Outcomes.{Sent}
 
--- l is the buffer b with the words of w from f up to t in front.
-module _ (w b l : List ℕ) (f t : ℕ) (e : l ≡ front (part f t w) b) (h : t ≤ length w) where
-  pub copied-there : part 0 (t - f) l ≡ part f t w
-  copied-there = ap (part 0 (t - f)) e ∙ front-part (part f t w) b (t - f) (part_length f t w h)
+-- The first n words of the buffer b are q, a copy of the product p.
+pub copied-there : (p q b : List ℕ) (n : ℕ) → q ≡ p → length p ≡ n → part 0 n (q ++ drop n b) ≡ p
+copied-there p q b n e h = part-take n (q ++ drop n b) ∙ take_at q (drop n b) n (ap length e ∙ h) ∙ e
 
-  pub copied-fixed : normal (part f t w) ≡ part f t w → normal (part 0 (t - f) l) ≡ part 0 (t - f) l
-  copied-fixed n = ap normal copied-there ∙ n ∙ sym copied-there
+module _ (p q b : List ℕ) (e : q ≡ p) where
+  pub copied-fixed : normal p ≡ p → normal (part 0 (length p) (q ++ drop (length p) b)) ≡ part 0 (length p) (q ++ drop (length p) b)
+  copied-fixed f = rw (copied-there p q b (length p) e refl) f
 
-  pub sent-made : (x : ℕ) (q : List ℕ) (r : ℕ) → t ≤ f + 24 → Added l (t - f) x q r → Sent (part f t w) x q r
-  sent-made x q r k a = record { few = omega (arith, a.few); product = a.form ∙ ap (λ (p : List ℕ). normal (p ++ (x ∷ []))) copied-there }
+  pub sent-made : (x : ℕ) (l : List ℕ) (r : ℕ) → length p ≤ 24 → Added (q ++ drop (length p) b) (length p) x l r → Sent p x l r
+  sent-made x l r k a = record { few = omega (arith, a.few); product = a.form ∙ ap (λ (y : List ℕ). normal (y ++ (x ∷ []))) (copied-there p q b (length p) e refl) }
 
--- ---- a receive
-
-module _ (m f t : ℕ) (w : List ℕ) {r : Left} (says : left_of r t w ≡ received m (part f t w)) where
-  pub received_none : r ≡ left.Impossible → none ≡ received m (part f t w)
-  received_none e = ap (λ (x : Left). left_of x t w) (sym e) ∙ says
-
-  pub received-some : (i : ℕ) (b l : List ℕ) → r ≡ left.From i → l ≡ front (part i t w) b → t ≤ length w → some (part 0 (t - i) l) ≡ received m (part f t w)
-  received-some i b l e c h = ap some (copied-there w b l i t c h) ∙ ap (λ (x : Left). left_of x t w) (sym e) ∙ says
-
-pub left-place : (r : Left) (i f t : ℕ) → r ≡ left.From i → Within r f t → (f ≤ i) × (i ≤ t)
-left-place r i f t e w = subst (λ (x : Left). Within x f t) e w
+-- What is left after a receive, copied.
+pub left-made : (m : ℕ) (p left q b : List ℕ) → received m p ≡ some left → q ≡ left → some (part 0 (length left) (q ++ drop (length left) b)) ≡ received m p
+left-made m p left q b e h = ap some (copied-there left q b (length left) h refl) ∙ sym e

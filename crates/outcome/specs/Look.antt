@@ -1,10 +1,10 @@
 -- The look over the rows of the work table for one that contains an outcome.
-use Rattle.std.specs.Prelude.{Bool, List, [], ◌∷◌, ℕ, zero, suc, ◌+◌, ◌*◌, ◌<◌, ◌≤◌, length, get_or}
+use Rattle.std.specs.Prelude.{Bool, List, [], ℕ, ◌+◌, ◌*◌, ◌<◌, ◌≤◌, length, get_or}
 use Rattle.common.specs.Choice.{if_lt}
-use Rattle.common.specs.First.{any_of}
 use Rattle.common.specs.Part.{part}
 use Rattle.meaning.specs.Systems.{put}
-use Rattle.rows.specs.Rows.{Row, covers}
+use Rattle.rows.specs.Rows.{Row}
+use Rattle.rows.specs.Look as look
 use Rattle.work.specs.Layout.{count_place, atoms_place}
 
 -- The atoms of channel c of row i, as the words tell.
@@ -16,17 +16,16 @@ abbrev pub row_at : List ℕ → ℕ → Row
 row_at w i = record { state = get_or w (103 * i) 0; products = product_at w i }
 
 -- k rows, from row i on.
-unfoldable pub rows_at : List ℕ → ℕ → ℕ → List Row
-rows_at w zero i = []
-rows_at w (suc k) i = row_at w i ∷ rows_at w k (i + 1)
+abbrev pub rows_at : List ℕ → ℕ → ℕ → List Row
+rows_at w = look.rows_from (row_at w)
 
 -- The outcome: in the target state, with the products of row i but for q at one channel.
 abbrev pub outcome_row : List ℕ → ℕ → ℕ → ℕ → List ℕ → Row
-outcome_row w target i channel q = record { state = target; products = put (product_at w i) channel q }
+outcome_row w target i channel q = record { state = target; products = put (row_at w i).products channel q }
 
 -- Some row of the first `rows` contains it.
-unfoldable pub covered_in : ℕ → List ℕ → ℕ → Row → Bool
-covered_in n w rows o = any_of (λ s. covers n s o) (rows_at w rows 0)
+abbrev pub covered_in : ℕ → List ℕ → ℕ → Row → Bool
+covered_in n w = look.covered_in n (row_at w)
 
 -- The words have room for that many rows, and no count in them is over 24.
 pub record Sized (w : List ℕ) (rows : ℕ) : Type 0 where

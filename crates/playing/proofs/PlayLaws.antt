@@ -1,12 +1,8 @@
 -- Words that play to an end are a run; reaches bad means that a bad state can be reached.
-use mathlib.Core.Path.{◌≡◌, refl, sym, ap, subst, ◌∙◌}
-use mathlib.Core.Bool.{Bool, true, false}
-use mathlib.Core.Logic.{◌⊎◌, inl, inr}
-use mathlib.Core.List.{List, [], ◌∷◌, ◌++◌, append-nil, Memᴰ}
-use mathlib.Core.Option.{Option, none, some, map, none-ne-some, some-injective}
-use Prim.Native.Nat.{ℕ, suc, ◌+◌}
-use native.Mathlib.Omega.{arith}
-use lib.ListN.{length, get_elem?}
+use Rattle.std.proofs.Common.{refl, sym, ap, subst, ◌∙◌, inl, inr, append-nil, arith, ◌≡◌, Bool, true, false, ◌⊎◌, List, [], ◌∷◌, ◌++◌, ℕ, suc, ◌+◌, length}
+use mathlib.Core.List.{Memᴰ}
+use Rattle.std.proofs.Math.Option.{Option, none, some, map, none-ne-some, some-injective}
+use Rattle.std.proofs.Math.ListN.{get_elem?}
 use Rattle.common.specs.First.{is_in}
 use Rattle.common.proofs.AtLaws.{At, mem-at}
 use Rattle.common.proofs.ChoiceLaws.{eq-then, eq-cases, true-cases}

@@ -1,2 +1,6 @@
-// Runs as words, played by the plain rule. Definitions and laws; there is no code.
+// Runs as words: what a word says, and definitions and laws of how words are played by the plain rule.
 #![tactic(auto)]
+
+pub mod words;
+
+pub use crate::words::Step;

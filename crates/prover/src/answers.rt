@@ -1,127 +1,115 @@
 // What is made of a table's bytes.
-ghost use Rattle.std.specs.Prelude.{◌≡◌, ◌+◌, ◌≤◌, length};
-ghost use Rattle.table.specs.Systems.{GoodTable};
+ghost use Rattle.std.specs.Prelude.{◌≡◌, ◌+◌, ◌≤◌, length, Err};
+ghost use Rattle.wording.specs.Written.{Written};
 ghost use Rattle.writer.specs.Answers.{answer};
-ghost use Rattle.prover.specs.Output.{safe_rows, found, made, Tells, Makes};
+ghost use Rattle.writer.specs.Writing.{written, bytes_of};
+ghost use Rattle.prover.specs.Output.{list_line, listed, found, made, Tells, Makes};
 
-use search::searches::{Answer, search_good};
-use table::{Checked, Shape, check_table};
+use search::searches::{Verdict, search_good};
+use table::Table;
 use verdicts::write_verdict;
-use wording::answers::{bytes_line, input_fault_line, long_table_line, refusal_line};
-use wording::lines::{fault_line, safe_line};
-use writer::{Written, write_list};
+use wording::Line;
+use wording::lines::{fault_line, input_fault_line};
+use writer::{Refused, write_list};
 
-// So many rows of a safe table, or another verdict.
-#[derive(Clone, Copy)]
-pub enum Rows {
-    Safely(usize),
-    Otherwise,
+// What is to be written: a text of so many bytes, and a list of so many bytes where there is one.
+#[derive(Clone, Copy, Debug, PartialEq, Eq)]
+pub struct Output {
+    pub text: usize,
+    pub list: Option<usize>,
 }
 
-// The rows of a safe table.
-fn safe_rows(verdict: Answer) -> Rows
-    ensures { result ≡ safe_rows verdict }
+// Writes why there is no list, from a place on.
+fn write_refused(refused: Refused, out: &mut [u8], at: usize) -> usize
+    requires { at + 80 ≤ length out.old }
+    ensures { Written out.old at (list_line (answer (Err refused))) out.new result }
 {
-    match verdict {
-        Answer::Refused { fault: _, at: _ } => Rows::Otherwise,
-        Answer::SmallWork(_) => Rows::Otherwise,
-        Answer::SmallRun(_) => Rows::Otherwise,
-        Answer::Safe(rows) => Rows::Safely(rows),
-        Answer::Unsafe { rows: _, steps: _ } => Rows::Otherwise,
-        Answer::RowsFull {
-            rows: _,
-            row: _,
-            transition: _,
-        } => Rows::Otherwise,
-        Answer::AtomsFull {
-            rows: _,
-            row: _,
-            transition: _,
-        } => Rows::Otherwise,
+    match refused {
+        Refused::Table(refusal) => input_fault_line(out, at, refusal, 0),
+        Refused::BadRow(place) => Line::InputRefused {
+            number: 9,
+            input: 3,
+            place,
+        }
+        .write(out, at),
+        Refused::TooSmall(place) => Line::InputRefused {
+            number: 10,
+            input: 3,
+            place,
+        }
+        .write(out, at),
     }
 }
 
-// What is to be written: a text of so many bytes; or a text and a list, each of so many bytes.
-#[derive(Clone, Copy)]
-pub enum Output {
-    Text(usize),
-    WithList { text: usize, bytes: usize },
-}
-
 // Writes what is said of the list, from a place on.
-fn write_listed(listed: Written, out: &mut [u8], at: usize) -> Output
+fn write_listed(listed: Result<usize, Refused>, out: &mut [u8], at: usize) -> Output
     requires { at + 80 ≤ length out.old }
     ensures { Tells (answer listed) out.old at out.new result }
 {
     match listed {
-        Written::Bytes(bytes) => {
-            let text = bytes_line(out, at, bytes);
-            return Output::WithList { text, bytes };
+        Ok(bytes) => {
+            let text = Line::ListBytes(bytes).write(out, at);
+            Output {
+                text,
+                list: Some(bytes),
+            }
         }
-        Written::Refused { fault, at: start } => {
-            let text = input_fault_line(out, at, fault, 0, start);
-            return Output::Text(text);
-        }
-        Written::BadRow(row) => {
-            let text = refusal_line(out, at, 9, 3, row);
-            return Output::Text(text);
-        }
-        Written::TooSmall(bytes) => {
-            let text = refusal_line(out, at, 10, 3, bytes);
-            return Output::Text(text);
+        Err(refused) => {
+            let text = write_refused(refused, out, at);
+            Output { text, list: None }
         }
     }
+}
+
+// Makes text and list for a safe table, of the rows that the search made.
+fn write_safe(t: &[u8], work: &[u16], rows: usize, list: &mut [u8], out: &mut [u8]) -> Output
+    requires { (length list.old ≡ 206848) × (28732 ≤ length out.old) }
+    ensures { Makes (listed (written t.now work.now rows 206848) (bytes_of t.now work.now rows) rows list.old) out.old out.new list.new result }
+{
+    let listed = write_list(t, work, rows, list);
+    let next = Line::Safe(rows).write(out, 0);
+    write_listed(listed, out, next)
 }
 
 // Makes text and list for a good table.
 fn write_good(
-    table: &[u8],
-    s: Shape,
-    work: &mut [u16],
-    run: &mut [u16],
-    list: &mut [u8],
-    out: &mut [u8],
-) -> Output
-    requires good_table { GoodTable table.now s }
-    requires work_len { (length work.old ≡ 105472) × (length run.old ≡ 2048) × (length list.old ≡ 206848) × (28732 ≤ length out.old) }
-    ensures { Makes (found table.now work.old list.old) out.old out.new list.new result }
-{
-    let verdict = search_good(table, s, work, run);
-    match safe_rows(verdict) {
-        Rows::Safely(rows) => {
-            let listed = write_list(table, work, rows, list);
-            let next = safe_line(out, 0, rows);
-            return write_listed(listed, out, next);
-        }
-        Rows::Otherwise => {
-            let text = write_verdict(out, table, s, verdict, run);
-            return Output::Text(text);
-        }
-    }
-}
-
-// Makes text and list for the bytes of a table.
-pub fn write_answer(
-    table: &[u8],
+    table: &Table,
     work: &mut [u16],
     run: &mut [u16],
     list: &mut [u8],
     out: &mut [u8],
 ) -> Output
     requires { (length work.old ≡ 105472) × (length run.old ≡ 2048) × (length list.old ≡ 206848) × (28732 ≤ length out.old) }
-    ensures { Makes (made table.now work.old list.old) out.old out.new list.new result }
+    ensures { Makes (found table.now.bytes.now work.old list.old) out.old out.new list.new result }
 {
-    if 36874 < table.len() {
-        let text = long_table_line(out, 0);
-        return Output::Text(text);
+    let verdict = search_good(table, work, run);
+    if let Ok(Verdict::Safe(rows)) = verdict {
+        return write_safe(table.bytes, work, rows, list, out);
     }
-    match check_table(table) {
-        Checked::Refused { fault, at } => {
-            let text = fault_line(out, 0, fault, at);
-            return Output::Text(text);
-        }
-        Checked::Good(s) => {
-            return write_good(table, s, work, run, list, out);
+    let text = write_verdict(out, table, verdict, run);
+    Output { text, list: None }
+}
+
+// Makes text and list for the bytes of a table.
+pub fn write_answer(
+    t: &[u8],
+    work: &mut [u16],
+    run: &mut [u16],
+    list: &mut [u8],
+    out: &mut [u8],
+) -> Output
+    requires { (length work.old ≡ 105472) × (length run.old ≡ 2048) × (length list.old ≡ 206848) × (28732 ≤ length out.old) }
+    ensures { Makes (made t.now work.old list.old) out.old out.new list.new result }
+{
+    if 36874 < t.len() {
+        let text = Line::LongTable.write(out, 0);
+        return Output { text, list: None };
+    }
+    match Table::check(t) {
+        Ok(table) => write_good(&table, work, run, list, out),
+        Err(refusal) => {
+            let text = fault_line(out, 0, refusal);
+            Output { text, list: None }
         }
     }
 }

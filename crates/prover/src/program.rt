@@ -3,9 +3,9 @@ ghost use Rattle.std.specs.Prelude.{◌≡◌, ◌≤◌, length};
 ghost use Rattle.prover.specs.Output.{Inside};
 
 use crate::answers::{Output, write_answer};
-use files::{is_named, read_named, write_named, write_output};
-use input::Input;
+use files::{check_named, read_named, write_named, write_output};
 use std::env::Env;
+use std::io;
 use std::rt::Files;
 
 // Writes the list to its file, where there is one, and then the text. A list that cannot be written is not told as written.
@@ -15,19 +15,13 @@ fn write_made<R: Env + Files + Print, E: Print>(
     output: Output,
     list: &[u8],
     out: &[u8],
-)
+) -> io::Result<()>
     requires { Inside output list.now out.now }
 {
-    match output {
-        Output::Text(text) => {
-            write_output(rt, errors, &out[..text]);
-        }
-        Output::WithList { text, bytes } => {
-            if write_named(rt, errors, 2, b"list", &list[..bytes]) {
-                write_output(rt, errors, &out[..text]);
-            }
-        }
+    if let Some(bytes) = output.list {
+        write_named(rt, errors, 2, b"list", &list[..bytes])?;
     }
+    write_output(rt, errors, &out[..output.text])
 }
 
 // Reads the table and writes what is made of it, where the list has a name. Where the table cannot be read nothing is said of it, since the bytes
@@ -40,16 +34,11 @@ pub fn prove_file<R: Env + Files + Print, E: Print>(
     run: &mut [u16],
     list: &mut [u8],
     out: &mut [u8],
-)
+) -> io::Result<()>
     requires { (length work.old ≡ 105472) × (length run.old ≡ 2048) × (length list.old ≡ 206848) × (28732 ≤ length out.old) }
 {
-    match read_named(rt, errors, 1, b"table", table) {
-        Input::Failed(_) => {}
-        Input::UpTo(n) => {
-            if is_named(rt, errors, 2, b"list") {
-                let output = write_answer(&table[..n], work, run, list, out);
-                write_made(rt, errors, output, list, out);
-            }
-        }
-    }
+    let n = read_named(rt, errors, 1, b"table", table)?;
+    check_named(rt, errors, 2, b"list")?;
+    let output = write_answer(&table[..n], work, run, list, out);
+    write_made(rt, errors, output, list, out)
 }

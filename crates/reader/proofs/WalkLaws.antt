@@ -1,27 +1,22 @@
 -- The walk over all records, turn by turn.
-use mathlib.Core.Path.{◌≡◌, refl, sym, ◌∙◌}
-use mathlib.Core.List.{List}
-use Prim.Native.Nat.{ℕ, zero, suc, ◌+◌, ◌-◌, ◌<◌, ◌≤◌}
-use native.Mathlib.Omega.{arith}
-use lib.ListN.{length}
+use Rattle.std.proofs.Common.{◌≡◌, List, Some, None, Ok, Err, ℕ, zero, suc, ◌+◌, ◌-◌, ◌<◌, ◌≤◌, length, refl, sym, ◌∙◌, arith}
 use Rattle.common.proofs.ChoiceLaws.{lt-then, lt-else}
 use Rattle.reader.specs.Records.{record_at}
 use Rattle.reader.specs.Walks.{walk_from, walk_records}
 use Rattle.reader.proofs.RecordLaws.{whole-at}
-use Rattle.reader.specs.declared.records.Record.TheVariants as record_is
-use Rattle.reader.specs.declared.reader.Walk.TheVariants.{Whole, Cut}
+use Rattle.reader.specs.declared.records.Record.{Record}
 
 module _ (t : List ℕ) where
-  turn-cut : (k n at : ℕ) → at < length t → record_is.Cut ≡ record_at t at → Cut at ≡ walk_from (suc k) t n at
+  turn-cut : (k n at : ℕ) → at < length t → None ≡ record_at t at → Err (record { at = at }) ≡ walk_from (suc k) t n at
   unfolding walk_from
   turn-cut k n at l e = lt-then _ _ _ _ l (rw (← e))
 
-  turn-next : (k n at kind size next : ℕ) → at < length t → record_is.Whole kind size next ≡ record_at t at
-      → walk_from k t (n + 1) next ≡ walk_from (suc k) t n at
+  turn-next : (k n at : ℕ) (r : Record) → at < length t → Some r ≡ record_at t at
+      → walk_from k t (n + 1) r.next ≡ walk_from (suc k) t n at
   unfolding walk_from
-  turn-next k n at kind size next l e = lt-then _ _ _ _ l (rw (← e))
+  turn-next k n at r l e = lt-then _ _ _ _ l (rw (← e))
 
-  turn-done : (k n at : ℕ) → length t ≤ at → Whole n ≡ walk_from k t n at
+  turn-done : (k n at : ℕ) → length t ≤ at → Ok n ≡ walk_from k t n at
   unfolding walk_from
   turn-done zero n at l = refl
   turn-done (suc k) n at l = lt-else _ _ _ _ l refl
@@ -38,18 +33,18 @@ module _ (t : List ℕ) where
       record { passed = omega arith; same = rw z }
 
   module _ {count at : ℕ} (w : AtRecord count at) where
-    pub walk-done : length t ≤ at → Whole count ≡ walk_records t
+    pub walk-done : length t ≤ at → Ok count ≡ walk_records t
     walk-done l = turn-done (length t - count) count at l ∙ sym w.same
 
     module _ (l : at < length t) where
       left : length t - count ≡ suc (length t - (count + 1))
       left = let p = w.passed in omega arith
 
-      pub walk-cut : record_is.Cut ≡ record_at t at → Cut at ≡ walk_records t
+      pub walk-cut : None ≡ record_at t at → Err (record { at = at }) ≡ walk_records t
       walk-cut e = rw (w.same, left) (turn-cut (length t - (count + 1)) count at l e)
 
-      pub walk-next : (kind size next : ℕ) → record_is.Whole kind size next ≡ record_at t at → AtRecord (count + 1) next
-      walk-next kind size next e =
+      pub walk-next : (r : Record) → Some r ≡ record_at t at → AtRecord (count + 1) r.next
+      walk-next r e =
           let p = w.passed in
-          let n = (whole-at t at kind size next e).next_is in
-          record { passed = omega arith; same = w.same ∙ rw left (sym (turn-next (length t - (count + 1)) count at kind size next l e)) }
+          let n = (whole-at t at r e).next_is in
+          record { passed = omega arith; same = w.same ∙ rw left (sym (turn-next (length t - (count + 1)) count at r l e)) }

@@ -1,30 +1,25 @@
 -- The replay's answer: what it says, and that there is one for each table and run.
-use mathlib.Core.Path.{◌≡◌, refl, sym, ap, ◌∙◌}
-use mathlib.Core.Bool.{Bool, true, false, cond}
-use mathlib.Core.List.{List}
-use Prim.Native.Nat.{ℕ, ◌<◌, ◌≤◌}
-use lib.Dec.{ltb}
-use lib.ListN.{length}
+use Rattle.std.proofs.Common.{◌≡◌, refl, sym, ap, ◌∙◌, Bool, true, false, cond, List, ℕ, ◌<◌, ◌≤◌, ltb, length}
+use Rattle.std.specs.Prelude.{Result, Ok, Err}
 use Rattle.common.specs.Choice.{if_lt}
 use Rattle.common.proofs.ChoiceLaws.{lt-then, lt-else}
 use Rattle.table.specs.Checking.{check_table}
 use Rattle.table.specs.Systems.{system_of}
 use Rattle.table.specs.declared.checks.Shape.{Shape}
-use Rattle.table.specs.declared.checks.Checked.{Checked}
-use Rattle.table.specs.declared.checks.Checked.TheVariants as checked
-use Rattle.table.specs.declared.faults.Fault.{Fault}
+use Rattle.table.specs.declared.faults.Refusal as table
 use Rattle.playing.specs.Play.{Replayed, stuck, ends_elsewhere, reaches_bad, replay}
 use Rattle.replay.specs.Replaying.{refused, says, long_run, answer_with, replay_answer, answer_of, found, replay_with, replay_of, Replays}
-use Rattle.replay.specs.declared.replays.Answer.{Answer}
-use Rattle.replay.specs.declared.replays.Answer.TheVariants.{Refused, TooLong}
+use Rattle.replay.specs.declared.replays.Ending.{Ending}
+use Rattle.replay.specs.declared.replays.Refused.{Refused}
+use Rattle.replay.specs.declared.replays.Refused.TheVariants.{Table, TooLong}
 
 -- What the words played say is what the answer says.
-found-says : (p : Replayed) → answer_of (found p) ≡ says p
+found-says : (p : Replayed) → answer_of (Ok (found p)) ≡ says p
 found-says (stuck n) = refl
 found-says (ends_elsewhere q) = refl
 found-says (reaches_bad n) = refl
 
-choice-says : (a b : ℕ) (x y : Answer) → answer_of (if_lt a b x y) ≡ if_lt a b (answer_of x) (answer_of y)
+choice-says : (a b : ℕ) (x y : Result Ending Refused) → answer_of (if_lt a b x y) ≡ if_lt a b (answer_of x) (answer_of y)
 unfolding if_lt
 choice-says a b x y = go (ltb a b)
   where
@@ -37,31 +32,31 @@ pub replay-says : (t run : List ℕ) → answer_of (replay_of t run) ≡ replay_
 unfolding replay_of replay_answer
 replay-says t run = go (check_table t)
   where
-    go : (c : Checked) → answer_of (replay_with t run c) ≡ answer_with t run c
-    go (checked.Refused f at) = refl
-    go (checked.Good s) =
-        choice-says 2048 (length run) TooLong (found (replay (system_of t) run))
+    go : (c : Result Shape table.Refusal) → answer_of (replay_with t run c) ≡ answer_with t run c
+    go (Err r) = refl
+    go (Ok s) =
+        choice-says 2048 (length run) (Err TooLong) (Ok (found (replay (system_of t) run)))
         ∙ ap (if_lt 2048 (length run) (refused long_run)) (found-says (replay (system_of t) run))
 
-pub replays : (t run : List ℕ) (r : Answer) → r ≡ replay_of t run → Replays t run r
+pub replays : (t run : List ℕ) (r : Result Ending Refused) → r ≡ replay_of t run → Replays t run r
 replays t run r e = record { says = ap answer_of e ∙ replay-says t run; exact = e }
 
 -- The table's refusal, a run that is too long, and the words played.
-pub replays-refused : (t run : List ℕ) (f : Fault) (at : ℕ) → checked.Refused f at ≡ check_table t → Replays t run (Refused f at)
+pub replays-refused : (t run : List ℕ) (r : table.Refusal) → Err r ≡ check_table t → Replays t run (Err (Table r))
 unfolding replay_of
-replays-refused t run f at e = replays t run (Refused f at) (ap (replay_with t run) e)
+replays-refused t run r e = replays t run (Err (Table r)) (ap (replay_with t run) e)
 
-module _ (t run : List ℕ) (s : Shape) (e : checked.Good s ≡ check_table t) where
-  good : if_lt 2048 (length run) TooLong (found (replay (system_of t) run)) ≡ replay_of t run
+module _ (t run : List ℕ) (s : Shape) (e : Ok s ≡ check_table t) where
+  good : if_lt 2048 (length run) (Err TooLong) (Ok (found (replay (system_of t) run))) ≡ replay_of t run
   unfolding replay_of
   good = ap (replay_with t run) e
 
-  pub replays-long : 2048 < length run → Replays t run TooLong
-  replays-long l = replays t run TooLong (lt-then _ _ _ _ l refl ∙ good)
+  pub replays-long : 2048 < length run → Replays t run (Err TooLong)
+  replays-long l = replays t run (Err TooLong) (lt-then _ _ _ _ l refl ∙ good)
 
-  pub replays-played : (r : Answer) → length run ≤ 2048 → r ≡ found (replay (system_of t) run) → Replays t run r
+  pub replays-played : (r : Result Ending Refused) → length run ≤ 2048 → r ≡ Ok (found (replay (system_of t) run)) → Replays t run r
   replays-played r l k = replays t run r (lt-else _ _ _ _ l k ∙ good)
 
 -- One answer: two that keep the promise are equal.
-pub one-replay : (t run : List ℕ) (r r' : Answer) → Replays t run r → Replays t run r' → r ≡ r'
+pub one-replay : (t run : List ℕ) (r r' : Result Ending Refused) → Replays t run r → Replays t run r' → r ≡ r'
 one-replay t run r r' p p' = p.exact ∙ sym p'.exact

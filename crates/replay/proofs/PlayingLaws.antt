@@ -1,14 +1,8 @@
 -- All words, played on a good table: what the words play to from here is what they play to from the start.
-use mathlib.Core.Path.{◌≡◌, refl, sym, ap, ◌∙◌}
-use mathlib.Core.Bool.{Bool, true, false}
-use mathlib.Core.Logic.{◌⊎◌, inl, inr}
-use mathlib.Core.List.{List, [], ◌∷◌}
-use mathlib.Core.Option.{none, some}
-use Prim.Native.Nat.{ℕ, ◌+◌, ◌<◌, ◌≤◌}
-use native.Mathlib.Numerals.{add-one}
-use native.Mathlib.Omega.{arith}
-use lib.ListN.{length, get_or, drop, drop_of_length-le}
-use lib.Seq.{drop-cons}
+use Rattle.std.proofs.Common.{◌≡◌, refl, sym, ap, ◌∙◌, Bool, true, false, ◌⊎◌, inl, inr, List, [], ◌∷◌, ℕ, ◌+◌, ◌<◌, ◌≤◌, length, get_or, drop}
+use Rattle.std.specs.Prelude.{Option, Some, None}
+use Rattle.std.proofs.Math.Option.{none, some}
+use Rattle.std.proofs.lemmas.List.{drop_more, drop_all}
 use Rattle.common.specs.First.{is_in}
 use Rattle.common.proofs.BoolLaws.{either, clash}
 use Rattle.common.proofs.ChoiceLaws.{true-then, true-else}
@@ -22,9 +16,8 @@ use Rattle.playing.specs.Play.{play_word, Played, stuck_at, ends_in, play, judge
 use Rattle.replay.specs.Queues.{Queues}
 use Rattle.replay.specs.Turns.{config_in, arrived, Turned}
 use Rattle.replay.specs.Replaying.{found}
-use Rattle.replay.specs.declared.turns.Turn.{Turn}
-use Rattle.replay.specs.declared.turns.Turn.TheVariants as turn
-use Rattle.replay.specs.declared.replays.Answer.TheVariants.{Stuck, EndsElsewhere, ReachesBad}
+use Rattle.replay.specs.declared.queues.Memory.{Memory}
+use Rattle.replay.specs.declared.replays.Ending.TheVariants.{Stuck, Elsewhere, Bad}
 use Rattle.replay.proofs.QueueLaws.{queues-empty}
 
 -- ---- words in general
@@ -60,46 +53,41 @@ bad-same t h g q = go (either (bad_state t h q))
 -- ---- the loop
 
 -- The words before number `step` are played: they lead to state q and these contents.
-pub record Playing (t run s e : List ℕ) (q step : ℕ) : Type 0 where
-  pub queues : Queues step s e
-  pub few : step ≤ length run
-  pub same : play (system_of t) run (start_of (system_of t)) 0 ≡ play (system_of t) (drop step run) (config_in q s e) step
+pub record Playing (t run : List ℕ) (x : Memory) (q step : ℕ) : Type 0 where
+  pub queues : Queues step x
+  pub same : play (system_of t) run (start_of (system_of t)) 0 ≡ play (system_of t) (drop step run) (config_in q x) step
 
-pub playing-starts : (t : List ℕ) (h : Shape) (run s e : List ℕ) → GoodTable t h → Queues 0 s e → Playing t run s e h.start 0
-playing-starts t h run s e g q =
+pub playing-starts : (t : List ℕ) (h : Shape) (run : List ℕ) (x : Memory) → GoodTable t h → Queues 0 x → Playing t run x h.start 0
+playing-starts t h run x g q =
     record {
       queues = q;
-      few = omega arith;
-      same = ap (λ (x : Config). play (system_of t) run x 0) (λ i. record { state = start_is t h g i; contents = sym (queues-empty s e q) i });
+      same = ap (λ (y : Config). play (system_of t) run y 0) (λ i. record { state = start_is t h g i; contents = sym (queues-empty x q) i });
     }
 
-module _ (t run s e : List ℕ) (q step : ℕ) (p : Playing t run s e q step) where
-  module _ (l : step < length run) (s' e' : List ℕ) (r : Turn) (d : Turned t (get_or run step 0) q s e s' e' r) where
-    here : play (system_of t) run (start_of (system_of t)) 0 ≡ play (system_of t) (get_or run step 0 ∷ drop (step + 1) run) (config_in q s e) step
-    here = p.same ∙ ap (λ (ws : List ℕ). play (system_of t) ws (config_in q s e) step) (drop-cons run step 0 l ∙ ap (λ (n : ℕ). get_or run step 0 ∷ drop n run) (sym (add-one step)))
+module _ (t run : List ℕ) (x : Memory) (q step : ℕ) (p : Playing t run x q step) where
+  module _ (l : step < length run) (y : Memory) (r : Option ℕ) (d : Turned t (get_or run step 0) q x y r) where
+    here : play (system_of t) run (start_of (system_of t)) 0 ≡ play (system_of t) (get_or run step 0 ∷ drop (step + 1) run) (config_in q x) step
+    here = p.same ∙ ap (λ (ws : List ℕ). play (system_of t) ws (config_in q x) step) (drop_more run step 0 l)
 
-    pub playing-on : (q' : ℕ) → r ≡ turn.To q' → Playing t run s' e' q' (step + 1)
+    pub playing-on : (q' : ℕ) → r ≡ Some q' → Playing t run y q' (step + 1)
     playing-on q' z =
         record {
           queues = d.queues step p.queues;
-          few = omega arith;
-          same = here ∙ play-next (system_of t) _ _ _ (config_in q' s' e') step (ap (λ (x : Turn). arrived x s' e') (sym z) ∙ d.makes);
+          same = here ∙ play-next (system_of t) _ _ _ (config_in q' y) step (ap (λ (o : Option ℕ). arrived o y) (sym z) ∙ d.makes);
         }
 
-    pub playing-stuck : r ≡ turn.Stuck → Stuck step ≡ found (replay (system_of t) run)
+    pub playing-stuck : r ≡ None → Stuck step ≡ found (replay (system_of t) run)
     playing-stuck z =
-        ap found (sym (replay-is (system_of t) run (stuck_at step) (here ∙ play-stuck (system_of t) _ _ _ step (ap (λ (x : Turn). arrived x s' e') (sym z) ∙ d.makes))))
+        ap found (sym (replay-is (system_of t) run (stuck_at step) (here ∙ play-stuck (system_of t) _ _ _ step (ap (λ (o : Option ℕ). arrived o y) (sym z) ∙ d.makes))))
 
   module _ (h : Shape) (g : GoodTable t h) (l : length run ≤ step) where
-    ended : replay (system_of t) run ≡ judge_end (system_of t) (length run) (ends_in (config_in q s e))
+    ended : replay (system_of t) run ≡ judge_end (system_of t) (length run) (ends_in (config_in q x))
     ended =
-        replay-is (system_of t) run (ends_in (config_in q s e))
-        (p.same ∙ ap (λ (ws : List ℕ). play (system_of t) ws (config_in q s e) step) (drop_of_length-le run l) ∙ play-none (system_of t) (config_in q s e) step)
+        replay-is (system_of t) run (ends_in (config_in q x))
+        (p.same ∙ ap (λ (ws : List ℕ). play (system_of t) ws (config_in q x) step) (drop_all step run l) ∙ play-none (system_of t) (config_in q x) step)
 
-    pub playing-bad : (b : Bool) → b ≡ bad_state t h q → b ≡ true → ReachesBad step ≡ found (replay (system_of t) run)
-    playing-bad b k z =
-        let n : step ≡ length run = omega (arith, p.few) in
-        rw n (ap found (sym (ended ∙ sym (true-then _ _ _ (bad-same t h g q ∙ sym k ∙ z) refl))))
+    pub playing-bad : (b : Bool) → b ≡ bad_state t h q → b ≡ true → Bad (length run) ≡ found (replay (system_of t) run)
+    playing-bad b k z = ap found (sym (ended ∙ sym (true-then _ _ _ (bad-same t h g q ∙ sym k ∙ z) refl)))
 
-    pub playing-elsewhere : (b : Bool) → b ≡ bad_state t h q → b ≡ false → EndsElsewhere q ≡ found (replay (system_of t) run)
+    pub playing-elsewhere : (b : Bool) → b ≡ bad_state t h q → b ≡ false → Elsewhere q ≡ found (replay (system_of t) run)
     playing-elsewhere b k z = ap found (sym (ended ∙ sym (true-else _ _ _ (bad-same t h g q ∙ sym k ∙ z) refl)))

@@ -1,15 +1,9 @@
 -- The channels' contents in local memory: what a send, a receive and a marked loss make of them.
-use mathlib.Core.Path.{◌≡◌, refl, sym, ap, ◌∙◌, fun_ext}
-use mathlib.Core.Bool.{Bool, true, false}
-use mathlib.Core.Logic.{◌⊎◌, inl, inr}
-use mathlib.Core.List.{List, [], ◌∷◌, ◌++◌}
-use mathlib.Core.Option.{none, some, map}
-use Prim.Native.Nat.{ℕ, ◌+◌, ◌*◌, ◌<◌, ◌≤◌}
-use native.Mathlib.Omega.{arith}
-use lib.Dec.{ltb, eqb}
-use lib.ListN.{get_or, set, length-set, get_or-replicate, length-replicate, replicate}
-use lib.Seq.{get_or-set_same, get_or-set_other}
-use borrow.Author.Tests.{ltb-true, ltb-false, eqb-true, eqb-false}
+use Rattle.std.proofs.Common.{refl, sym, ap, ◌∙◌, inl, inr, arith, length-set, get_or-set_same, get_or-set_other, ltb-true, ltb-false, eqb-true, ◌≡◌, Bool, true, false, ◌⊎◌, List, [], ◌∷◌, ◌++◌, ℕ, ◌+◌, ◌*◌, ◌<◌, ◌≤◌, ltb, eqb, get_or, set, replicate}
+use mathlib.Core.Path.{fun_ext}
+use Rattle.std.proofs.Math.Option.{none, some, map}
+use Rattle.std.proofs.Math.ListN.{get_or-replicate, length-replicate}
+use borrow.Author.Tests.{eqb-false}
 use Rattle.common.specs.Part.{part}
 use Rattle.common.proofs.BoolLaws.{either}
 use Rattle.common.proofs.ChoiceLaws.{eq-then, eq-else}
@@ -18,16 +12,20 @@ use Rattle.meaning.specs.Systems.{put, Operation, quiet, send, receive}
 use Rattle.playing.specs.Play.{taken, operated}
 use Rattle.channels.specs.Contents.{head_of, tail_of, contents_in}
 use Rattle.channels.proofs.ContentsLaws.{part-before, part-behind, part_end, contents-at, contents-past, contents-put}
-use Rattle.replay.specs.Queues.{Queues, can_lose, Done}
+use Rattle.replay.specs.Queues.{Queues, held, can_lose, Done}
+use Rattle.replay.specs.declared.queues.Memory.{Memory}
+
+abbrev pub memory : List ℕ → List ℕ → Memory
+memory s e = record { store = s; ends = e }
 
 -- ---- memory in which each channel has had at most n messages
 
-pub queues-more : (n k : ℕ) (s e : List ℕ) → Queues n s e → n ≤ k → Queues k s e
-queues-more n k s e q h =
+pub queues-more : (n k : ℕ) (x : Memory) → Queues n x → n ≤ k → Queues k x
+queues-more n k x q h =
     record { room = q.room; pairs = q.pairs; order = q.order; few = λ c l. let r = q.few c l in omega arith }
 
 -- All places 0: every channel is empty.
-pub queues-zero : Queues 0 (replicate 8192 0) (replicate 8 0)
+pub queues-zero : Queues 0 (memory (replicate 8192 0) (replicate 8 0))
 queues-zero =
     let o : ℕ = 0 in
     record {
@@ -37,36 +35,36 @@ queues-zero =
       few = λ c l. let a = get_or-replicate 8 (4 + c) o o (omega arith) in omega arith;
     }
 
-pub queues-empty : (s e : List ℕ) → Queues 0 s e → contents_in s e ≡ (λ c. [])
-queues-empty s e q = fun_ext (λ c. go c (either (ltb c 4)))
+pub queues-empty : (x : Memory) → Queues 0 x → held x ≡ (λ c. [])
+queues-empty x q = fun_ext (λ c. go c (either (ltb c 4)))
   where
-    go : (c : ℕ) → (ltb c 4 ≡ true) ⊎ (ltb c 4 ≡ false) → contents_in s e c ≡ []
+    go : (c : ℕ) → (ltb c 4 ≡ true) ⊎ (ltb c 4 ≡ false) → held x c ≡ []
     go c (inl h) =
         let l = ltb-true c 4 h in
         let f = q.few c l in
-        contents-at s e c l ∙ part_none _ _ s (omega arith)
-    go c (inr h) = contents-past s e c (ltb-false c 4 h)
+        contents-at x.store x.ends c l ∙ part_none _ _ x.store (omega arith)
+    go c (inr h) = contents-past x.store x.ends c (ltb-false c 4 h)
 
 -- ---- nothing is done to the memory
 
-pub stays : (s e : List ℕ) (n : ℕ) → Queues n s e → Queues (n + 1) s e
-stays s e n q = queues-more n (n + 1) s e q (omega arith)
+pub stays : (x : Memory) (n : ℕ) → Queues n x → Queues (n + 1) x
+stays x n q = queues-more n (n + 1) x q (omega arith)
 
-module _ (s e : List ℕ) where
-  pub done-quiet : Done false quiet s e s e true
+module _ (x : Memory) where
+  pub done-quiet : Done false quiet x x true
   unfolding operated
-  done-quiet = record { makes = refl; queues = stays s e }
+  done-quiet = record { makes = refl; queues = stays x }
 
   -- A marked operation: a send's message is gone at once, and no other can be marked.
-  pub done-lost : (g : Bool) (o : Operation) (b : Bool) → g ≡ true → b ≡ can_lose o → Done g o s e s e b
+  pub done-lost : (g : Bool) (o : Operation) (b : Bool) → g ≡ true → b ≡ can_lose o → Done g o x x b
   unfolding operated
-  done-lost g quiet b k z = rw (k, z) (record { makes = refl; queues = stays s e })
-  done-lost g (send c m) b k z = rw (k, z) (record { makes = refl; queues = stays s e })
-  done-lost g (receive c m) b k z = rw (k, z) (record { makes = refl; queues = stays s e })
+  done-lost g quiet b k z = rw (k, z) (record { makes = refl; queues = stays x })
+  done-lost g (send c m) b k z = rw (k, z) (record { makes = refl; queues = stays x })
+  done-lost g (receive c m) b k z = rw (k, z) (record { makes = refl; queues = stays x })
 
 -- ---- a send
 
-module _ (s e : List ℕ) (c m : ℕ) (h : c < 4) (q : Queues 2047 s e) where
+module _ (s e : List ℕ) (c m : ℕ) (h : c < 4) (q : Queues 2047 (memory s e)) where
   -- Where the tails and heads stand after a send.
   sent-head : (d : ℕ) → d < 4 → head_of (set e (4 + c) (tail_of e c + 1)) d ≡ head_of e d
   sent-head d l = get_or-set_other e (4 + c) d (tail_of e c + 1) 0 (λ r. omega arith)
@@ -104,7 +102,7 @@ module _ (s e : List ℕ) (c m : ℕ) (h : c < 4) (q : Queues 2047 s e) where
           ne-lt : (d ≡ c → ⊥) → c ≤ d → c < d
           ne-lt n b = omega arith
 
-  sent-queues : (n : ℕ) → Queues n s e → Queues (n + 1) (set s (2048 * c + tail_of e c) m) (set e (4 + c) (tail_of e c + 1))
+  sent-queues : (n : ℕ) → Queues n (memory s e) → Queues (n + 1) (memory (set s (2048 * c + tail_of e c) m) (set e (4 + c) (tail_of e c + 1)))
   sent-queues n w =
       record {
         room = length-set s _ m ∙ w.room;
@@ -129,7 +127,7 @@ module _ (s e : List ℕ) (c m : ℕ) (h : c < 4) (q : Queues 2047 s e) where
           let f = w.few d l in
           rw (sent-other d (eqb-false d c k)) (omega arith)
 
-  pub done-send : Done false (send c m) s e (set s (2048 * c + tail_of e c) m) (set e (4 + c) (tail_of e c + 1)) true
+  pub done-send : Done false (send c m) (memory s e) (memory (set s (2048 * c + tail_of e c) m) (set e (4 + c) (tail_of e c + 1))) true
   unfolding operated
   done-send =
       record {
@@ -140,12 +138,12 @@ module _ (s e : List ℕ) (c m : ℕ) (h : c < 4) (q : Queues 2047 s e) where
 -- ---- a receive
 
 -- Nothing waits there, or another message stands at the head.
-module _ (s e : List ℕ) (c m : ℕ) (h : c < 4) (q : Queues 2047 s e) where
-  none-taken : taken m (contents_in s e c) ≡ none → Done false (receive c m) s e s e false
+module _ (s e : List ℕ) (c m : ℕ) (h : c < 4) (q : Queues 2047 (memory s e)) where
+  none-taken : taken m (contents_in s e c) ≡ none → Done false (receive c m) (memory s e) (memory s e) false
   unfolding operated
-  none-taken z = record { makes = rw z; queues = stays s e }
+  none-taken z = record { makes = rw z; queues = stays (memory s e) }
 
-  pub nothing-there : tail_of e c ≤ head_of e c → Done false (receive c m) s e s e false
+  pub nothing-there : tail_of e c ≤ head_of e c → Done false (receive c m) (memory s e) (memory s e) false
   nothing-there l = none-taken (ap (taken m) (contents-at s e c h ∙ part_none _ _ s (omega arith)))
 
   -- The contents of a channel where something waits.
@@ -155,7 +153,7 @@ module _ (s e : List ℕ) (c m : ℕ) (h : c < 4) (q : Queues 2047 s e) where
       let f = q.few c h in
       contents-at s e c h ∙ part-cons _ _ s (omega arith) (omega arith)
 
-  pub other-there : head_of e c < tail_of e c → (get_or s (2048 * c + head_of e c) 0 ≡ m → ⊥) → Done false (receive c m) s e s e false
+  pub other-there : head_of e c < tail_of e c → (get_or s (2048 * c + head_of e c) 0 ≡ m → ⊥) → Done false (receive c m) (memory s e) (memory s e) false
   other-there l n = none-taken (ap (taken m) (waits l) ∙ sym (eq-else _ _ _ _ n refl))
 
   module _ (l : head_of e c < tail_of e c) (k : get_or s (2048 * c + head_of e c) 0 ≡ m) where
@@ -176,7 +174,7 @@ module _ (s e : List ℕ) (c m : ℕ) (h : c < 4) (q : Queues 2047 s e) where
     took-others : (d : ℕ) → d < 4 → (d ≡ c → ⊥) → contents_in s (set e c (head_of e c + 1)) d ≡ contents_in s e d
     took-others d b n = contents-at _ _ d b ∙ rw (took-other d n, took-tail d) (sym (contents-at s e d b))
 
-    took-queues : (n : ℕ) → Queues n s e → Queues (n + 1) s (set e c (head_of e c + 1))
+    took-queues : (n : ℕ) → Queues n (memory s e) → Queues (n + 1) (memory s (set e c (head_of e c + 1)))
     took-queues n w =
         record {
           room = w.room;
@@ -191,7 +189,7 @@ module _ (s e : List ℕ) (c m : ℕ) (h : c < 4) (q : Queues 2047 s e) where
             rw (z, took-head, took-tail c) (omega arith)
         order d b (inr v) = rw (took-other d (eqb-false d c v), took-tail d) (w.order d b)
 
-    pub done-receive : Done false (receive c m) s e s (set e c (head_of e c + 1)) true
+    pub done-receive : Done false (receive c m) (memory s e) (memory s (set e c (head_of e c + 1))) true
     unfolding operated
     done-receive =
         record {

@@ -1,14 +1,10 @@
 -- What the replay's answers mean for the system's runs: reaches bad means a run to a bad state, and the runs whose losses happen only at
 -- sends are run words that the replay plays.
-use mathlib.Core.Path.{◌≡◌, refl, sym, ap, subst, ◌∙◌}
-use mathlib.Core.Bool.{Bool, true, false}
-use mathlib.Core.Logic.{◌⊎◌, inl, inr}
-use mathlib.Core.List.{List, [], ◌∷◌, ◌++◌, append-nil, Memᴰ}
-use mathlib.Core.Option.{some, map}
-use Prim.Native.Nat.{ℕ, ◌+◌, ◌%◌, ◌<◌, ◌≤◌}
-use native.Mathlib.Omega.{arith}
-use lib.ListN.{length, get_elem?, length-append}
-use borrow.Author.Tests.{lt-ltb, le-ltb}
+use Rattle.std.proofs.Common.{◌≡◌, refl, sym, ap, subst, ◌∙◌, Bool, true, false, ◌⊎◌, inl, inr, List, [], ◌∷◌, ◌++◌, append-nil, ℕ, ◌+◌, ◌%◌, ◌<◌, ◌≤◌, length, length-append, arith, lt-ltb, le-ltb}
+use Rattle.std.specs.Prelude.{Result, Ok, Err}
+use Rattle.std.proofs.Math.Option.{some, map}
+use Rattle.std.proofs.Math.ListN.{get_elem?}
+use mathlib.Core.List.{Memᴰ}
 use Rattle.common.proofs.AtLaws.{At, at-below, mem-at}
 use Rattle.common.proofs.ChoiceLaws.{eq-then, true-then, lt-cases}
 use Rattle.common.proofs.FirstLaws.{in-iff}
@@ -20,34 +16,33 @@ use Rattle.table.specs.Systems.{GoodTable, system_of}
 use Rattle.table.proofs.GoodLaws.{few-transitions}
 use Rattle.table.proofs.SystemLaws.{moves-length}
 use Rattle.table.specs.declared.checks.Shape.{Shape}
-use Rattle.table.specs.declared.checks.Checked.{Checked}
-use Rattle.table.specs.declared.checks.Checked.TheVariants as checked
-use Rattle.playing.specs.Play.{taken, operated, play_move, reaches_bad, judge_end, replay}
+use Rattle.table.specs.declared.faults.Refusal as table
+use Rattle.playing.specs.Play.{taken, operated, play_move, Replayed, reaches_bad, judge_end, replay}
 use Rattle.playing.proofs.PlayLaws.{front-taken, replay-bad, Plays, plays-then, plays-none, plays-one}
 use Rattle.replay.specs.Replaying.{refused, says, long_run, answer_with, replay_answer, found, Replays}
 use Rattle.replay.specs.Runs as runs
 use Rattle.replay.specs.Runs.{LostAtOnce, SendRun}
-use Rattle.replay.specs.declared.replays.Answer.TheVariants.{ReachesBad}
+use Rattle.replay.specs.declared.replays.Ending.TheVariants as ending
 use Rattle.replay.proofs.AnswerLaws.{replays-played}
 
 -- ---- reaches bad
 
 -- REPLAY: where the call answers reaches bad, the table is good, the words are all played, and there is a run of the system from the start
 -- with empty channels to a bad state.
-pub reaches-bad : (t run : List ℕ) (n : ℕ) → Replays t run (ReachesBad n) → (s : Shape) × GoodTable t s × ((x : Config) × Reachable (system_of t) x × Bad (system_of t) x)
+pub reaches-bad : (t run : List ℕ) (n : ℕ) → Replays t run (Ok (ending.Bad n)) → (s : Shape) × GoodTable t s × ((x : Config) × Reachable (system_of t) x × Bad (system_of t) x)
 unfolding replay_answer
 reaches-bad t run n p = go (check_table t) refl (sym p.says)
   where
-    played : (s : Shape) → check_table t ≡ checked.Good s
+    played : (s : Shape) → check_table t ≡ Ok s
         → ((2048 < length run) × (refused long_run ≡ says (reaches_bad n))) ⊎ ((length run ≤ 2048) × (says (replay (system_of t) run) ≡ says (reaches_bad n)))
         → (s : Shape) × GoodTable t s × ((x : Config) × Reachable (system_of t) x × Bad (system_of t) x)
     played s a (inl r) = let z : ◌≡◌ {A = ℕ} 0 1 = cc in absurd (omega arith)
     played s a (inr r) = (s, a, replay-bad (system_of t) run n (cc))
 
-    go : (c : Checked) → check_table t ≡ c → answer_with t run c ≡ says (reaches_bad n)
+    go : (c : Result Shape table.Refusal) → check_table t ≡ c → answer_with t run c ≡ says (reaches_bad n)
         → (s : Shape) × GoodTable t s × ((x : Config) × Reachable (system_of t) x × Bad (system_of t) x)
-    go (checked.Refused f at) a e = let z : ◌≡◌ {A = ℕ} 0 1 = cc in absurd (omega arith)
-    go (checked.Good s) a e = played s a (lt-cases _ _ _ _ e)
+    go (Err r) a e = let z : ◌≡◌ {A = ℕ} 0 1 = cc in absurd (omega arith)
+    go (Ok s) a e = played s a (lt-cases _ _ _ _ e)
 
 -- ---- a move as a word
 
@@ -145,10 +140,10 @@ words-bad S ws x p b = ap (judge_end S (length ws)) (p 0) ∙ sym (true-then _ _
 
 -- FOUND: of a good table, every such run of at most 2,048 moves to a bad state is run words to which the call answers reaches bad.
 pub bad-replayed : (t : List ℕ) (s : Shape) {x : Config} {n : ℕ} → GoodTable t s → SendRun (system_of t) (start_of (system_of t)) n x → Bad (system_of t) x → n ≤ 2048
-    → (run : List ℕ) × Replays t run (ReachesBad n)
+    → (run : List ℕ) × Replays t run (Ok (ending.Bad n))
 bad-replayed t s {x} {n} g r b l =
     let k = moves-length t s g in
     let f = few-transitions t s g in
     let p = run-words (system_of t) (omega arith) r in
     let e = p.1 in
-    (p.0, replays-played t p.0 s (sym g) (ReachesBad n) (omega arith) (ap ReachesBad (sym e) ∙ sym (ap found (words-bad (system_of t) p.0 x p.2 b))))
+    (p.0, replays-played t p.0 s (sym g) (Ok (ending.Bad n)) (omega arith) (ap (λ (k : ℕ). Ok (ending.Bad k)) (sym e) ∙ sym (ap (λ (w : Replayed). Ok (found w)) (words-bad (system_of t) p.0 x p.2 b))))

@@ -1,29 +1,28 @@
 -- One move made, and one run word played.
-use Rattle.std.specs.Prelude.{◌≡◌, Bool, List, ℕ, ◌+◌}
-use Rattle.std.proofs.Math.Option.{Option, none, some}
+use Rattle.std.specs.Prelude.{◌≡◌, Bool, List, ℕ, ◌+◌, Option, Some, None}
+use Rattle.std.proofs.Math.Option as math
+use Rattle.std.proofs.Math.Option.{none, some}
 use Rattle.meaning.specs.Systems.{Move, Config}
 use Rattle.table.specs.Systems.{system_of}
 use Rattle.playing.specs.Play.{play_move, play_word}
-use Rattle.channels.specs.Contents.{contents_in}
-use Rattle.replay.specs.Queues.{Queues}
-use Rattle.replay.specs.declared.turns.Turn.{Turn}
-use Rattle.replay.specs.declared.turns.Turn.TheVariants.{To, Stuck}
+use Rattle.replay.specs.Queues.{Queues, held}
+use Rattle.replay.specs.declared.queues.Memory.{Memory}
 
--- The configuration in a state whose contents a store and its ends hold.
-abbrev pub config_in : ℕ → List ℕ → List ℕ → Config
-config_in q s e = record { state = q; contents = contents_in s e }
+-- The configuration in a state whose contents a memory holds.
+abbrev pub config_in : ℕ → Memory → Config
+config_in q x = record { state = q; contents = held x }
 
 -- Where a word leads, with the contents it leaves.
-abbrev pub arrived : Turn → List ℕ → List ℕ → Option Config
-arrived (To q) s e = some (config_in q s e)
-arrived Stuck s e = none
+abbrev pub arrived : Option ℕ → Memory → math.Option Config
+arrived (Some q) x = some (config_in q x)
+arrived None x = none
 
--- The move m, played from state q, has made the store s' and the ends e' of s and e.
-pub record Moved (gone : Bool) (m : Move) (q : ℕ) (s e s' e' : List ℕ) (r : Turn) : Type 0 where
-  pub makes : arrived r s' e' ≡ play_move gone m (config_in q s e)
-  pub queues : (n : ℕ) → Queues n s e → Queues (n + 1) s' e'
+-- The move m, played from state q, has made the memory y of x.
+pub record Moved (gone : Bool) (m : Move) (q : ℕ) (x y : Memory) (r : Option ℕ) : Type 0 where
+  pub makes : arrived r y ≡ play_move gone m (config_in q x)
+  pub queues : (n : ℕ) → Queues n x → Queues (n + 1) y
 
--- The word w, played from state q, has made the store s' and the ends e' of s and e.
-pub record Turned (t : List ℕ) (w q : ℕ) (s e s' e' : List ℕ) (r : Turn) : Type 0 where
-  pub makes : arrived r s' e' ≡ play_word (system_of t) w (config_in q s e)
-  pub queues : (n : ℕ) → Queues n s e → Queues (n + 1) s' e'
+-- The word w, played from state q, has made the memory y of x.
+pub record Turned (t : List ℕ) (w q : ℕ) (x y : Memory) (r : Option ℕ) : Type 0 where
+  pub makes : arrived r y ≡ play_word (system_of t) w (config_in q x)
+  pub queues : (n : ℕ) → Queues n x → Queues (n + 1) y

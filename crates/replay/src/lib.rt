@@ -7,4 +7,4 @@ pub mod replays;
 pub mod turns;
 
 // The public call, which asks nothing, and its answer. All else is inner.
-pub use crate::replays::{Answer, replay};
+pub use crate::replays::{Ending, Refused, replay};

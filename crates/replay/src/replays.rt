@@ -1,71 +1,63 @@
 // The replay of a run of a table: refusals first, then all words played; the last state decides.
 ghost use Rattle.std.specs.Prelude.{◌≡◌, ◌≤◌, length};
-ghost use Rattle.table.specs.Systems.{GoodTable, system_of};
+ghost use Rattle.table.specs.Systems.{system_of};
 ghost use Rattle.playing.specs.Play as play;
-ghost use Rattle.replay.specs.Queues.{Queues};
 ghost use Rattle.replay.specs.Replaying.{found, Replays};
+ghost use Rattle.replay.specs.declared.replays.Refused.TheVariants.{Table};
 
-use crate::turns::{Turn, play_word};
-use table::{Checked, Fault, Shape, check_table, is_bad};
+use crate::queues::Memory;
+use crate::turns::play_word;
+use table::{Refusal, Table};
 
-// The answer to a table and a run: the table's refusal, that of a run over 2,048 words, the step that is stuck,
-// the state in which the run ends elsewhere, or the number of steps in which it reaches bad.
-#[derive(Clone, Copy)]
-pub enum Answer {
-    Refused { fault: Fault, at: usize },
-    TooLong,
+// How a run ends: stuck at a step, elsewhere in a state, or in a bad state after so many steps.
+#[derive(Clone, Copy, Debug, PartialEq, Eq)]
+pub enum Ending {
     Stuck(usize),
-    EndsElsewhere(usize),
-    ReachesBad(usize),
+    Elsewhere(usize),
+    Bad(usize),
 }
 
-// Plays all words, with local memory for the channels.
-fn play_run(t: &[u8], s: Shape, run: &[u16], store: &mut [u8], ends: &mut [usize]) -> Answer
-    requires { GoodTable t.now s × (length run.now ≤ 2048) × Queues 0 store.old ends.old }
-    ensures { result ≡ found (play.replay (system_of t.now) run.now) }
-{
-    let mut state = s.start;
-    let mut step: usize = 0;
-    while step < run.len() {
-        match play_word(t, s, run[step], state, store, ends) {
-            Turn::To(next) => {
-                state = next;
-                step += 1;
-            }
-            Turn::Stuck => {
-                return Answer::Stuck(step);
-            }
-        }
-    }
-    if is_bad(t, s, state) {
-        return Answer::ReachesBad(step);
-    }
-    Answer::EndsElsewhere(state)
+// Why a run is not played: the table is refused, or the run has over 2,048 words.
+#[derive(Clone, Copy, Debug, PartialEq, Eq)]
+pub enum Refused {
+    Table(Refusal),
+    TooLong,
 }
 
-// The local memory of a replay: every channel starts empty.
-fn play_empty(t: &[u8], s: Shape, run: &[u16]) -> Answer
-    requires { GoodTable t.now s × (length run.now ≤ 2048) }
-    ensures { result ≡ found (play.replay (system_of t.now) run.now) }
+impl From<Refusal> for Refused {
+    ghost from_gives = { λ refusal refused. refused ≡ Table refusal };
+
+    fn from(refusal: Refusal) -> Refused {
+        Refused::Table(refusal)
+    }
+}
+
+// Plays all words, from the start with empty channels.
+fn play_run(table: &Table, run: &[u16]) -> Ending
+    requires { length run.now ≤ 2048 }
+    ensures { result ≡ found (play.replay (system_of table.now.bytes.now) run.now) }
 {
-    let mut store = [0u8; 8192];
-    let mut ends = [0usize; 8];
-    play_run(t, s, run, &mut store, &mut ends)
+    let mut memory = Memory::empty();
+    let mut state = table.shape.start;
+    for (step, word) in run.iter().enumerate() {
+        let Some(next) = play_word(table, *word, state, &mut memory) else {
+            return Ending::Stuck(step);
+        };
+        state = next;
+    }
+    if table.is_bad(state) {
+        return Ending::Bad(run.len());
+    }
+    Ending::Elsewhere(state)
 }
 
 // The replay. Any bytes and any words are taken.
-pub fn replay(t: &[u8], run: &[u16]) -> Answer
+pub fn replay(t: &[u8], run: &[u16]) -> Result<Ending, Refused>
     ensures { Replays t.now run.now result }
 {
-    match check_table(t) {
-        Checked::Refused { fault, at } => {
-            return Answer::Refused { fault, at };
-        }
-        Checked::Good(s) => {
-            if 2048 < run.len() {
-                return Answer::TooLong;
-            }
-            return play_empty(t, s, run);
-        }
+    let table = Table::check(t)?;
+    if 2048 < run.len() {
+        return Err(Refused::TooLong);
     }
+    Ok(play_run(&table, run))
 }

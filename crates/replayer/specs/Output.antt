@@ -1,10 +1,10 @@
 -- What the program writes for the bytes of a table and the bytes of a text.
-use Rattle.std.specs.Prelude.{List, ℕ, length}
+use Rattle.std.specs.Prelude.{List, ℕ, length, Result, Ok, Err}
 use Rattle.common.specs.Choice.{if_lt}
 use Rattle.table.specs.Answers.{number_of, place_of}
 use Rattle.table.specs.Checking.{check_table}
-use Rattle.table.specs.declared.checks.Checked.{Checked}
-use Rattle.table.specs.declared.checks.Checked.TheVariants as checked
+use Rattle.table.specs.declared.checks.Shape.{Shape}
+use Rattle.table.specs.declared.faults.Refusal.{Refusal}
 use Rattle.playing.specs.Play.{stuck, ends_elsewhere, reaches_bad}
 use Rattle.replay.specs.Replaying.{ReplayAnswer, refused, says, replay_answer}
 use Rattle.wording.specs.Answers.{stuck_line, elsewhere_line, reaches_bad_line, refusal_line, no_run_line, long_table_line, long_run_line}
@@ -18,9 +18,9 @@ line_of (says (ends_elsewhere state)) = elsewhere_line state
 line_of (says (reaches_bad steps)) = reaches_bad_line steps
 
 -- A text that is no run: the table's refusal comes first.
-abbrev pub no_run_text : Checked → ℕ → List ℕ
-no_run_text (checked.Refused f at) line = refusal_line (number_of f) 0 (place_of f at)
-no_run_text (checked.Good s) line = no_run_line line
+abbrev pub no_run_text : Result Shape Refusal → ℕ → List ℕ
+no_run_text (Err r) line = refusal_line (number_of r.fault) 0 (place_of r.fault r.at)
+no_run_text (Ok s) line = no_run_line line
 
 -- What is said of a table and of what the text tells.
 abbrev pub told_text : List ℕ → Told → List ℕ

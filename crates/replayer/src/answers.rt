@@ -1,40 +1,43 @@
 // What is said of a table's bytes and a text's.
-ghost use Rattle.std.specs.Prelude.{◌≡◌, ◌≤◌, length};
+ghost use Rattle.std.specs.Prelude.{◌≡◌, ◌≤◌, length, Ok};
 ghost use Rattle.replay.specs.Replaying.{answer_of};
 ghost use Rattle.table.specs.Checking.{check_table};
 ghost use Rattle.wording.specs.Written.{Written};
 ghost use Rattle.steps.specs.Runs.{run_in};
 ghost use Rattle.replayer.specs.Output.{line_of, no_run_text, told_text, output_of};
 
-use replay::{Answer, replay};
-use steps::{Run, read_run};
-use table::{Checked, check_table};
-use wording::answers::{
-    elsewhere_line, input_fault_line, long_run_line, long_table_line, no_run_line,
-    reaches_bad_line, refusal_line, stuck_line,
-};
+use replay::{Ending, Refused, replay};
+use steps::{NoRun, read_run};
+use table::check_table;
+use wording::Line;
+use wording::lines::input_fault_line;
+
+// Writes the line of how a run ends.
+fn write_ending(ending: Ending, out: &mut [u8]) -> usize
+    requires { 80 ≤ length out.old }
+    ensures { Written out.old 0 (line_of (answer_of (Ok ending))) out.new result }
+{
+    match ending {
+        Ending::Stuck(step) => Line::Stuck(step).write(out, 0),
+        Ending::Elsewhere(state) => Line::Elsewhere(state).write(out, 0),
+        Ending::Bad(steps) => Line::ReachesBad(steps).write(out, 0),
+    }
+}
 
 // Writes the line of the replay's answer.
-fn write_line(answer: Answer, out: &mut [u8]) -> usize
+fn write_line(answer: Result<Ending, Refused>, out: &mut [u8]) -> usize
     requires { 80 ≤ length out.old }
     ensures { Written out.old 0 (line_of (answer_of answer)) out.new result }
 {
     match answer {
-        Answer::Refused { fault, at } => {
-            return input_fault_line(out, 0, fault, 0, at);
+        Ok(ending) => write_ending(ending, out),
+        Err(Refused::Table(refusal)) => input_fault_line(out, 0, refusal, 0),
+        Err(Refused::TooLong) => Line::InputRefused {
+            number: 6,
+            input: 2,
+            place: 0,
         }
-        Answer::TooLong => {
-            return refusal_line(out, 0, 6, 2, 0);
-        }
-        Answer::Stuck(step) => {
-            return stuck_line(out, 0, step);
-        }
-        Answer::EndsElsewhere(state) => {
-            return elsewhere_line(out, 0, state);
-        }
-        Answer::ReachesBad(steps) => {
-            return reaches_bad_line(out, 0, steps);
-        }
+        .write(out, 0),
     }
 }
 
@@ -44,12 +47,8 @@ fn write_no_run(table: &[u8], line: usize, out: &mut [u8]) -> usize
     ensures { Written out.old 0 (no_run_text (check_table table.now) line) out.new result }
 {
     match check_table(table) {
-        Checked::Refused { fault, at } => {
-            return input_fault_line(out, 0, fault, 0, at);
-        }
-        Checked::Good(_) => {
-            return no_run_line(out, 0, line);
-        }
+        Err(refusal) => input_fault_line(out, 0, refusal, 0),
+        Ok(_) => Line::NoRun(line).write(out, 0),
     }
 }
 
@@ -59,13 +58,8 @@ fn write_told(table: &[u8], text: &[u8], words: &mut [u16], out: &mut [u8]) -> u
     ensures { Written out.old 0 (told_text table.now (run_in text.now)) out.new result }
 {
     match read_run(text, words) {
-        Run::NotAt(line) => {
-            return write_no_run(table, line, out);
-        }
-        Run::Words(n) => {
-            let answer = replay(table, &words[..n]);
-            return write_line(answer, out);
-        }
+        Ok(n) => write_line(replay(table, &words[..n]), out),
+        Err(NoRun { line }) => write_no_run(table, line, out),
     }
 }
 
@@ -75,10 +69,10 @@ pub fn write_answer(table: &[u8], text: &[u8], words: &mut [u16], out: &mut [u8]
     ensures { Written out.old 0 (output_of table.now text.now) out.new result }
 {
     if 36874 < table.len() {
-        return long_table_line(out, 0);
+        return Line::LongTable.write(out, 0);
     }
     if 28732 < text.len() {
-        return long_run_line(out, 0);
+        return Line::LongRun.write(out, 0);
     }
     write_told(table, text, words, out)
 }

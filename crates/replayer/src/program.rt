@@ -1,10 +1,10 @@
 // From inputs to output. What is said of the inputs is decided and written by `write_answer` alone.
-ghost use Rattle.std.specs.Prelude.{◌≡◌, ◌≤◌, length};
+ghost use Rattle.std.specs.Prelude.{◌≤◌, length};
 
 use crate::answers::write_answer;
 use files::{read_named, read_standard, write_output};
-use input::Input;
 use std::env::Env;
+use std::io;
 use std::io::Read;
 use std::rt::Files;
 
@@ -18,17 +18,11 @@ pub fn replay_input<R: Env + Files + Print, E: Print, I: Read>(
     text: &mut [u8],
     words: &mut [u16],
     out: &mut [u8],
-)
+) -> io::Result<()>
     requires { (28732 ≤ length words.old) × (80 ≤ length out.old) }
 {
-    match read_named(rt, errors, 1, b"table", table) {
-        Input::Failed(_) => {}
-        Input::UpTo(n) => match read_standard(reader, errors, text) {
-            Input::Failed(_) => {}
-            Input::UpTo(m) => {
-                let size = write_answer(&table[..n], &text[..m], words, out);
-                write_output(rt, errors, &out[..size]);
-            }
-        },
-    }
+    let n = read_named(rt, errors, 1, b"table", table)?;
+    let m = read_standard(reader, errors, text)?;
+    let size = write_answer(&table[..n], &text[..m], words, out);
+    write_output(rt, errors, &out[..size])
 }

@@ -1,13 +1,7 @@
 -- One row in another: the test is true exactly when every configuration of the one is in the other.
-use mathlib.Core.Path.{◌≡◌, refl, sym, subst}
-use mathlib.Core.Bool.{true, false, true≢false}
+use Rattle.std.proofs.Common.{◌≡◌, refl, sym, subst, true, false, true≢false, ◌⊎◌, inl, inr, ◌↔◌, List, ℕ, zero, suc, ◌<◌, arith, eqb, ltb, eqb-true, ltb-true, ltb-false}
 use mathlib.Core.Logic.Iff
-use mathlib.Core.Logic.{◌⊎◌, inl, inr, ◌↔◌}
-use mathlib.Core.List.{List}
-use Prim.Native.Nat.{ℕ, zero, suc, ◌<◌}
-use native.Mathlib.Omega.{arith}
-use lib.Dec.{eqb, ltb}
-use borrow.Author.Tests.{eqb-true, eqb-false, ltb-true, ltb-false}
+use borrow.Author.Tests.{eqb-false}
 use Rattle.common.proofs.BoolLaws.{either}
 use Rattle.common.proofs.ChoiceLaws.{true-then, true-cases, eq-then, eq-cases}
 use Rattle.meaning.specs.Systems.{Config}

@@ -4,3 +4,4 @@ pub mod OutcomeLaws
 pub mod RowOfLaws
 pub mod NormalLaws
 pub mod SentLaws
+pub mod LookLaws

@@ -1,10 +1,7 @@
 -- The outcome of a move from a row whose products are in normal form, in normal form.
-use mathlib.Core.Path.{◌≡◌, refl, sym, ap, ◌∙◌, fun_ext}
-use mathlib.Core.Bool.{Bool}
-use mathlib.Core.List.{List, [], ◌∷◌, ◌++◌}
+use Rattle.std.proofs.Common.{◌≡◌, refl, sym, ap, ◌∙◌, Bool, List, [], ◌∷◌, ◌++◌, ℕ, eqb}
+use mathlib.Core.Path.{fun_ext}
 use mathlib.Core.Option.{Option, none, some, map}
-use Prim.Native.Nat.{ℕ}
-use lib.Dec.{eqb}
 use Rattle.common.proofs.ChoiceLaws.{eq-then, eq-else}
 use Rattle.meaning.specs.Systems.{Operation, quiet, send, Move, put}
 use Rattle.meaning.specs.Outcomes.{self_loop_send}

@@ -1,10 +1,6 @@
 -- The outcome of a move of a table from a row of the table is a row of the table.
-use mathlib.Core.Path.{◌≡◌, refl, subst, ◌∙◌}
-use mathlib.Core.Bool.{Bool, true, false}
-use mathlib.Core.List.{List, [], ◌∷◌}
+use Rattle.std.proofs.Common.{◌≡◌, refl, subst, ◌∙◌, Bool, true, false, List, [], ◌∷◌, ℕ, ◌<◌, ◌≤◌, arith}
 use mathlib.Core.Option.{Option, none, some, map, none-ne-some, some-injective}
-use Prim.Native.Nat.{ℕ, ◌<◌, ◌≤◌}
-use native.Mathlib.Omega.{arith}
 use Rattle.common.proofs.EachLaws.{each_append}
 use Rattle.meaning.specs.Systems.{Operation, quiet, send, Move, Ranged, put}
 use Rattle.meaning.specs.Outcomes.{self_loop_send}

@@ -1,7 +1,5 @@
 -- The atom that a send adds, by whether it is a self-loop.
-use mathlib.Core.Path.{◌≡◌}
-use mathlib.Core.Bool.{Bool, true, false}
-use Prim.Native.Nat.{ℕ}
+use Rattle.std.proofs.Common.{◌≡◌, Bool, true, false, ℕ}
 use Rattle.atoms.specs.Masks.{single_of, star_of}
 use Rattle.rows.specs.Outcomes.{sent_atom}
 

@@ -1,3 +1,4 @@
 -- Rows of masks.
 pub mod Rows
 pub mod Outcomes
+pub mod Look

@@ -1,11 +1,5 @@
 -- What the search of a good table finds, in the words of the meaning.
-use mathlib.Core.Path.{◌≡◌, refl, sym, ap, subst, ◌∙◌}
-use mathlib.Core.Bool.{true, false}
-use mathlib.Core.Logic.{◌⊎◌, inl, inr}
-use mathlib.Core.List.{List}
-use Prim.Native.Nat.{ℕ, zero, suc, ◌*◌, ◌<◌, ◌≤◌}
-use native.Mathlib.Omega.{arith}
-use lib.ListN.{length}
+use Rattle.std.proofs.Common.{◌≡◌, refl, sym, ap, subst, ◌∙◌, true, false, ◌⊎◌, inl, inr, List, Ok, ℕ, zero, suc, ◌*◌, ◌<◌, ◌≤◌, arith, length}
 use Rattle.common.specs.First.{is_in}
 use Rattle.common.proofs.AtLaws.{At, at_same}
 use Rattle.common.proofs.BoolLaws.{either}
@@ -30,7 +24,7 @@ use Rattle.findings.specs.Rebuild.{run_of}
 use Rattle.findings.proofs.FindLaws.{run-reaches}
 use Rattle.findings.proofs.LengthLaws.{run_short}
 use Rattle.search.specs.Searching.{Result, unwritten, concluded, search_system, search_with, search_of}
-use Rattle.search.specs.declared.searches.Answer.TheVariants as answer
+use Rattle.search.specs.declared.searches.Verdict.TheVariants as verdict
 
 module _ (t : List ℕ) (s : Shape) (g : GoodTable t s) where
   abbrev S : System
@@ -44,7 +38,7 @@ module _ (t : List ℕ) (s : Shape) (g : GoodTable t s) where
   -- earlier one by a move, and none is bad.
   pub data Finding (room : ℕ) : Result → Type 0 where
     -- The start is bad.
-    bad_start : Bad S (start_of S) → Finding room (unwritten (answer.Unsafe 0 0))
+    bad_start : Bad S (start_of S) → Finding room (unwritten (Ok (verdict.Unsafe 0 0)))
     -- Safe: each move of each row is impossible, or its outcome is inside one row.
     closed : (l : List (Entry (frame_of S))) → Rows (frame_of S) room (first_entry S) l → NoneBad l → Says (frame_of S) room l safe → Finding room (concluded S l safe)
     -- Unsafe: the run, played by the plain rule from the start with empty channels, ends in a bad state, and it is no longer than it may be.

@@ -1,10 +1,7 @@
 -- The loop over a row's moves, and the loop over the rows: the model from here on is the model from the start.
-use mathlib.Core.Path.{◌≡◌, refl, sym, ap, subst, ◌∙◌}
-use mathlib.Core.List.{List}
-use mathlib.Core.Option.{Option, none, some}
-use Prim.Native.Nat.{ℕ, zero, suc, ◌+◌, ◌-◌, ◌*◌, ◌<◌, ◌≤◌}
-use native.Mathlib.Omega.{arith}
-use lib.ListN.{length, get_or, get_elem?}
+use Rattle.std.proofs.Common.{◌≡◌, refl, sym, ap, subst, ◌∙◌, List, Result, Ok, Err, ℕ, zero, suc, ◌+◌, ◌-◌, ◌*◌, ◌<◌, ◌≤◌, arith, length, get_or}
+use Rattle.std.proofs.Math.Option.{Option, none, some}
+use Rattle.std.proofs.Math.ListN.{get_elem?}
 use Rattle.common.proofs.AtLaws.{past-at}
 use Rattle.meaning.specs.Systems.{System}
 use Rattle.rows.specs.Rows.{Row}
@@ -18,13 +15,13 @@ use Rattle.outcome.specs.Look.{row_at}
 use Rattle.search.specs.Standing.{entries, Standing, Grown}
 use Rattle.search.specs.Visits.{Tests, goes, stops, Passes, all, cut, Walks, whole, short}
 use Rattle.search.specs.declared.visits.Stop.{Stop}
-use Rattle.search.specs.declared.visits.Visited.{Visited}
-use Rattle.search.specs.declared.visits.Visited.TheVariants.{On, Ends}
-use Rattle.search.specs.declared.passes.Passed.{Passed}
-use Rattle.search.specs.declared.passes.Passed.TheVariants as passed
-use Rattle.search.specs.declared.passes.Walked.TheVariants as walked
+use Rattle.search.specs.declared.passes.Ended.{Ended}
 use Rattle.search.proofs.VisitLaws.{visit-elsewhere}
 use Rattle.search.proofs.StandingLaws.{entries-count, entry-there, grown-none, grown-there, grown-row, grown-then}
+
+-- The pass and the walk end there.
+abbrev ended_at : Stop → ℕ → ℕ → ℕ → Ended
+ended_at y n i j = record { why = y; rows = n; row = i; transition = j }
 
 module _ (S : System) (room : ℕ) (w : List ℕ) (rows : ℕ) where
   -- ---- the moves of row i: before move j the words are v, with n rows
@@ -49,11 +46,11 @@ module _ (S : System) (room : ℕ) (w : List ℕ) (rows : ℕ) where
         (sym (grown-row S room w v rows n k.grown i h))
 
     -- What a visit leads to.
-    abbrev Led : Visited → List ℕ → Type 0
-    Led (On r) u = Passing i u r (j + 1)
-    Led (Ends y) u = Passes S room w rows i (passed.Ended y n j) u
+    abbrev Led : Result ℕ Stop → List ℕ → Type 0
+    Led (Ok r) u = Passing i u r (j + 1)
+    Led (Err y) u = Passes S room w rows i (Err (ended_at y n i j)) u
 
-    led : (x : Visited) (u : List ℕ) → j < length S.moves → Tests S room v n i j (outcome_at S (row_at v i) j) x u → Led x u
+    led : (x : Result ℕ Stop) (u : List ℕ) → j < length S.moves → Tests S room v n i j (outcome_at S (row_at v i) j) x u → Led x u
     led x u m (goes {n = r} e g) =
         record {
           below = omega arith;
@@ -62,13 +59,13 @@ module _ (S : System) (room : ℕ) (w : List ℕ) (rows : ℕ) where
         }
     led x u m (stops e) = cut (turn m ∙ ap (λ (x : Visit (frame_of S)). elim x as (λ y. Pass (frame_of S)) [ on m ↦ pass (frame_of S) room (length S.moves - (j + 1)) m (row_at w i) i (j + 1) | stop y ↦ ended y (entries S v n) ]) e) k.grown
 
-    pub passing-on : (x : Visited) (r : ℕ) (u : List ℕ) → x ≡ On r → j < length S.moves → Tests S room v n i j (outcome_at S (row_at v i) j) x u → Passing i u r (j + 1)
-    passing-on x r u z m d = subst (λ (y : Visited). Led y u) z (led x u m d)
+    pub passing-on : (x : Result ℕ Stop) (r : ℕ) (u : List ℕ) → x ≡ Ok r → j < length S.moves → Tests S room v n i j (outcome_at S (row_at v i) j) x u → Passing i u r (j + 1)
+    passing-on x r u z m d = subst (λ (y : Result ℕ Stop). Led y u) z (led x u m d)
 
-    pub passing-cut : (x : Visited) (y : Stop) (u : List ℕ) → x ≡ Ends y → j < length S.moves → Tests S room v n i j (outcome_at S (row_at v i) j) x u → Passes S room w rows i (passed.Ended y n j) u
-    passing-cut x y u z m d = subst (λ (y : Visited). Led y u) z (led x u m d)
+    pub passing-cut : (x : Result ℕ Stop) (y : Stop) (u : List ℕ) → x ≡ Err y → j < length S.moves → Tests S room v n i j (outcome_at S (row_at v i) j) x u → Passes S room w rows i (Err (ended_at y n i j)) u
+    passing-cut x y u z m d = subst (λ (y : Result ℕ Stop). Led y u) z (led x u m d)
 
-    pub passing-ends : length S.moves ≤ j → Passes S room w rows i (passed.Through n) v
+    pub passing-ends : length S.moves ≤ j → Passes S room w rows i (Ok n) v
     unfolding pass
     passing-ends m = let z : length S.moves - j ≡ 0 = omega arith in all (k.same ∙ ap (λ (x : ℕ). pass (frame_of S) room x (entries S v n) (row_at w i) i j) z) k.grown
 
@@ -97,11 +94,11 @@ module _ (S : System) (room : ℕ) (w : List ℕ) (rows : ℕ) where
         (entry-there S v n i h)
 
     -- What a pass leads to.
-    abbrev Gone : Passed → List ℕ → Type 0
-    Gone (passed.Through r) u = Walking u r (i + 1)
-    Gone (passed.Ended y r j) u = Walks S room w rows (walked.Ended y r i j) u
+    abbrev Gone : Result ℕ Ended → List ℕ → Type 0
+    Gone (Ok r) u = Walking u r (i + 1)
+    Gone (Err e) u = Walks S room w rows (Err e) u
 
-    gone : (x : Passed) (u : List ℕ) → i < n → Passes S room v n i x u → Gone x u
+    gone : (x : Result ℕ Ended) (u : List ℕ) → i < n → Passes S room v n i x u → Gone x u
     gone x u h (all {n = r} e g) =
         record {
           below = omega (arith, grown-there S room v u n r g i h);
@@ -110,11 +107,11 @@ module _ (S : System) (room : ℕ) (w : List ℕ) (rows : ℕ) where
         }
     gone x u h (cut {n = r} e g) = short (row h ∙ ap (λ (x : Pass (frame_of S)). elim x as (λ y. Found (frame_of S)) [ through m ↦ walk (frame_of S) room (room - (i + 1)) m (i + 1) | ended y m ↦ record { verdict = y; rows = m } ]) e) (grown-then S room w v u rows n r k.grown g)
 
-    pub walking_on : (x : Passed) (r : ℕ) (u : List ℕ) → x ≡ passed.Through r → i < n → Passes S room v n i x u → Walking u r (i + 1)
-    walking_on x r u z h d = subst (λ (y : Passed). Gone y u) z (gone x u h d)
+    pub walking_on : (x : Result ℕ Ended) (r : ℕ) (u : List ℕ) → x ≡ Ok r → i < n → Passes S room v n i x u → Walking u r (i + 1)
+    walking_on x r u z h d = subst (λ (y : Result ℕ Ended). Gone y u) z (gone x u h d)
 
-    pub walking-cut : (x : Passed) (y : Stop) (r j : ℕ) (u : List ℕ) → x ≡ passed.Ended y r j → i < n → Passes S room v n i x u → Walks S room w rows (walked.Ended y r i j) u
-    walking-cut x y r j u z h d = subst (λ (y : Passed). Gone y u) z (gone x u h d)
+    pub walking-cut : (x : Result ℕ Ended) (e : Ended) (u : List ℕ) → x ≡ Err e → i < n → Passes S room v n i x u → Walks S room w rows (Err e) u
+    walking-cut x e u z h d = subst (λ (y : Result ℕ Ended). Gone y u) z (gone x u h d)
 
     none-there : n ≤ i → get_elem? (entries S v n) i ≡ none
     none-there h = past-at (entries S v n) i (omega (arith, entries-count S v n))
@@ -125,7 +122,7 @@ module _ (S : System) (room : ℕ) (w : List ℕ) (rows : ℕ) where
     last h (suc m) =
         ap (λ (x : Option (Entry (frame_of S))). elim x as (λ y. Found (frame_of S)) [ none ↦ record { verdict = safe; rows = entries S v n } | some e ↦ elim (pass (frame_of S) room (length S.moves) (entries S v n) e.row i 0) as (λ y. Found (frame_of S)) [ through q ↦ walk (frame_of S) room m q (i + 1) | ended y q ↦ record { verdict = y; rows = q } ] ]) (none-there h)
 
-    pub walking-ends : n ≤ i → Walks S room w rows (walked.Safe n) v
+    pub walking-ends : n ≤ i → Walks S room w rows (Ok n) v
     walking-ends h = whole (k.same ∙ last h (room - i)) k.grown
 
 -- ---- a transition that comes from another state than that of row i is passed by: nothing would come of its visit
@@ -134,6 +131,6 @@ module _ (t : List ℕ) (s : Shape) (g : GoodTable t s) (room : ℕ) (w : List �
     (m : j < s.transitions) where
   pub passing-by : (state source : ℕ) → state ≡ get_or w (103 * i) 0 → source ≡ (transition_at t j).source → (source ≡ state → ⊥) → Passing (system_of t) room w rows i v n (j + 1)
   passing-by state source a b c =
-      passing-on (system_of t) room w rows i v n j k h (On n) n v refl (omega (arith, moves-length t s g))
+      passing-on (system_of t) room w rows i v n j k h (Ok n) n v refl (omega (arith, moves-length t s g))
       (visit-elsewhere t s g room v n k.grown.standing i j (grown-there (system_of t) room w v rows n k.grown i h) m (transition_at t j) refl
       (λ e. c (b ∙ sym e ∙ ap (λ (r : Row). r.state) (grown-row (system_of t) room w v rows n k.grown i h) ∙ sym a)))

@@ -1,12 +1,6 @@
 -- The search of a table: its first row, how it ends, and what it leaves.
-use mathlib.Core.Path.{◌≡◌, refl, sym, ap, subst, ◌∙◌}
-use mathlib.Core.Bool.{Bool, true, false, cond}
-use mathlib.Core.List.{List, [], ◌∷◌, ◌++◌}
-use Prim.Native.Nat.{ℕ, ◌+◌, ◌-◌, ◌*◌, ◌<◌, ◌≤◌}
-use native.Mathlib.Omega.{arith}
-use lib.Dec.{ltb}
-use lib.ListN.{length, drop}
-use lib.Seq.{drop-drop}
+use Rattle.std.proofs.Common.{◌≡◌, refl, sym, ap, subst, ◌∙◌, Bool, true, false, cond, List, [], ◌∷◌, ◌++◌, Ok, Err, ℕ, ◌+◌, ◌-◌, ◌*◌, ◌<◌, ◌≤◌, arith, ltb, length, drop, drop-drop}
+use Rattle.std.proofs.Common as std
 use Rattle.common.specs.Choice.{if_true, if_lt}
 use Rattle.common.specs.First.{is_in}
 use Rattle.common.specs.Front.{front}
@@ -16,9 +10,7 @@ use Rattle.meaning.specs.Systems.{System}
 use Rattle.table.specs.Checking.{check_table}
 use Rattle.table.specs.Systems.{GoodTable, system_of, bad_state}
 use Rattle.table.specs.declared.checks.Shape.{Shape}
-use Rattle.table.specs.declared.checks.Checked.{Checked}
-use Rattle.table.specs.declared.checks.Checked.TheVariants as checked
-use Rattle.table.specs.declared.faults.Fault.{Fault}
+use Rattle.table.specs.declared.faults.Refusal.{Refusal}
 use Rattle.table.proofs.SystemLaws.{start_is, bads-are, moves-length, well-made, few-channels, few-messages}
 use Rattle.rows.proofs.CoverLaws.{covers_self}
 use Rattle.work.specs.Layout.{Stored, all_words, start_stored}
@@ -32,13 +24,12 @@ use Rattle.findings.specs.Search.{frame_of, first_entry}
 use Rattle.findings.specs.Rebuild.{run_of}
 use Rattle.search.specs.Standing.{entries, stored, Standing, Grown}
 use Rattle.search.specs.Visits.{verdict_of, Walks, whole, short}
-use Rattle.search.specs.Searching.{Result, unwritten, concluded, found_by, search_system, search_with, search_of, Leaves, Concluded, Searches}
+use Rattle.search.specs.Searching.{Result, Answer, unwritten, concluded, found_by, search_system, search_with, search_of, Leaves, Concluded, Searches}
 use Rattle.search.specs.declared.visits.Stop.{Stop}
 use Rattle.search.specs.declared.visits.Stop.TheVariants as stop
-use Rattle.search.specs.declared.passes.Walked.{Walked}
-use Rattle.search.specs.declared.passes.Walked.TheVariants as walked
-use Rattle.search.specs.declared.searches.Answer.{Answer}
-use Rattle.search.specs.declared.searches.Answer.TheVariants as answer
+use Rattle.search.specs.declared.passes.Ended.{Ended}
+use Rattle.search.specs.declared.searches.Verdict.TheVariants as verdict
+use Rattle.search.specs.declared.searches.Refused.TheVariants as refused
 use Rattle.search.proofs.StandingLaws.{entries-count, grown-there, Told, tells, words-length}
 
 -- ---- row 0
@@ -92,11 +83,10 @@ module _ (t : List ℕ) (s : Shape) (g : GoodTable t s) (room : ℕ) (h : 1 ≤ 
         (record { answer = c; rows = laid u n b ∙ ap (λ (x : List Stored). front (all_words x) w) (sym d); words = f })
 
   -- Where the walk ended: safe; or at a row's transition that are there, and the rest is to conclude.
-  abbrev Ended : Walked → List ℕ → Type 0
-  Ended (walked.Safe n) u = (run : List ℕ) → Leaves (found_by S found) w run (answer.Safe n) u run
-  Ended (walked.Ended y n i j) u = Standing S room u n × (i < n) × (j < s.transitions)
-      × ((run : List ℕ) (r : Answer) (run' : List ℕ) → r ≡ (concluded S (entries S u n) (verdict_of y i j)).answer → run' ≡ front (concluded S (entries S u n) (verdict_of y i j)).run run
-      → Leaves (found_by S found) w run r u run')
+  abbrev Finish : std.Result ℕ Ended → List ℕ → Type 0
+  Finish (Ok n) u = (run : List ℕ) → Leaves (found_by S found) w run (Ok (verdict.Safe n)) u run
+  Finish (Err e) u = Standing S room u e.rows × (e.row < e.rows) × (e.transition < s.transitions)
+      × ((run : List ℕ) (r : Answer) (run' : List ℕ) → Concluded S (entries S u e.rows) e.row e.transition e.why run r run' → Leaves (found_by S found) w run r u run')
 
   -- The row and the transition that a verdict names are there.
   named : (l : List (Entry (frame_of S))) (y : Stop) (i j : ℕ) → Says (frame_of S) room l (verdict_of y i j) → (i < length l) × (j < length S.moves)
@@ -109,31 +99,30 @@ module _ (t : List ℕ) (s : Shape) (g : GoodTable t s) (room : ℕ) (h : 1 ≤ 
   same_rows l stop.AtomsFull i j = refl
   same_rows l stop.RowsFull i j = refl
 
-  ended : (x : Walked) (u : List ℕ) → Walks S room v 1 x u → Ended x u
-  ended x u (whole {n = n} q b) = λ run. leaves u n explore.safe q b run (answer.Safe n) run (ap answer.Safe (sym (entries-count S u n))) refl (front-none run)
-  ended x u (short {y = y} {n = n} {i = i} {j = j} q b) =
+  finish : (x : std.Result ℕ Ended) (u : List ℕ) → Walks S room v 1 x u → Finish x u
+  finish x u (whole {n = n} q b) = λ run. leaves u n explore.safe q b run (Ok (verdict.Safe n)) run (ap (λ (m : ℕ). Ok (verdict.Safe m)) (sym (entries-count S u n))) refl (front-none run)
+  finish x u (short {y = y} {n = n} {i = i} {j = j} q b) =
       let m = named (entries S u n) y i j (says u n (verdict_of y i j) q) in
-      (b.standing, omega (arith, entries-count S u n), omega (arith, moves-length t s g), λ run r run' c d. leaves u n (verdict_of y i j) q b run r run' c (same_rows (entries S u n) y i j) d)
+      (b.standing, omega (arith, entries-count S u n), omega (arith, moves-length t s g), λ run r run' c. leaves u n (verdict_of y i j) q b run r run' c.answer (same_rows (entries S u n) y i j) c.words)
 
-  module _ (x : Walked) (u : List ℕ) (d : Walks S room v 1 x u) where
-    pub leaves-safe : (n : ℕ) (run : List ℕ) → x ≡ walked.Safe n → Leaves (found_by S found) w run (answer.Safe n) u run
-    leaves-safe n run z = subst (λ (y : Walked). Ended y u) z (ended x u d) run
+  module _ (x : std.Result ℕ Ended) (u : List ℕ) (d : Walks S room v 1 x u) where
+    pub leaves-safe : (n : ℕ) (run : List ℕ) → x ≡ Ok n → Leaves (found_by S found) w run (Ok (verdict.Safe n)) u run
+    leaves-safe n run z = subst (λ (y : std.Result ℕ Ended). Finish y u) z (finish x u d) run
 
-    module _ (y : Stop) (n i j : ℕ) (z : x ≡ walked.Ended y n i j) where
-      at-end : Ended (walked.Ended y n i j) u
-      at-end = subst (λ (q : Walked). Ended q u) z (ended x u d)
+    module _ (end : Ended) (z : x ≡ Err end) where
+      at-end : Finish (Err end) u
+      at-end = subst (λ (q : std.Result ℕ Ended). Finish q u) z (finish x u d)
 
-      pub end-stands : Standing S room u n
+      pub end-stands : Standing S room u end.rows
       end-stands = at-end.0
 
-      pub end_row : i < n
+      pub end_row : end.row < end.rows
       end_row = at-end.1
 
-      pub end-move : j < s.transitions
+      pub end-move : end.transition < s.transitions
       end-move = at-end.2
 
-      pub leaves-ended : (run : List ℕ) (r : Answer) (run' : List ℕ) → r ≡ (concluded S (entries S u n) (verdict_of y i j)).answer → run' ≡ front (concluded S (entries S u n) (verdict_of y i j)).run run
-          → Leaves (found_by S found) w run r u run'
+      pub leaves-ended : (run : List ℕ) (r : Answer) (run' : List ℕ) → Concluded S (entries S u end.rows) end.row end.transition end.why run r run' → Leaves (found_by S found) w run r u run'
       leaves-ended = at-end.3
 
 -- ---- the room
@@ -151,24 +140,24 @@ module _ (n r : ℕ) (e : r ≡ room_of n) where
 -- ---- the conclusion
 
 module _ (S : System) (l : List (Entry (frame_of S))) (n : ℕ) (k : length l ≡ n) (i j : ℕ) (y : Stop) (run : List ℕ) where
-  pub conclude-unsafe : (steps : ℕ) (run' : List ℕ) → y ≡ stop.Unsafe → steps ≡ length (run_of S l i j) → run' ≡ front (run_of S l i j) run → Concluded S l i j y run (answer.Unsafe n steps) run'
+  pub conclude-unsafe : (steps : ℕ) (run' : List ℕ) → y ≡ stop.Unsafe → steps ≡ length (run_of S l i j) → run' ≡ front (run_of S l i j) run → Concluded S l i j y run (Ok (verdict.Unsafe n steps)) run'
   conclude-unsafe steps run' z a b =
       record {
-        answer = ap (λ (x : ℕ). answer.Unsafe x steps) (sym k) ∙ ap (answer.Unsafe (length l)) a ∙ ap (λ (x : Stop). (concluded S l (verdict_of x i j)).answer) (sym z);
+        answer = ap (λ (x : ℕ). Ok (verdict.Unsafe x steps)) (sym k) ∙ ap (λ (x : ℕ). Ok (verdict.Unsafe (length l) x)) a ∙ ap (λ (x : Stop). (concluded S l (verdict_of x i j)).answer) (sym z);
         words = b ∙ ap (λ (x : Stop). front (concluded S l (verdict_of x i j)).run run) (sym z);
       }
 
-  pub conclude-atoms : y ≡ stop.AtomsFull → Concluded S l i j y run (answer.AtomsFull n i j) run
+  pub conclude-atoms : y ≡ stop.AtomsFull → Concluded S l i j y run (Ok (verdict.AtomsFull n i j)) run
   conclude-atoms z =
       record {
-        answer = ap (λ (x : ℕ). answer.AtomsFull x i j) (sym k) ∙ ap (λ (x : Stop). (concluded S l (verdict_of x i j)).answer) (sym z);
+        answer = ap (λ (x : ℕ). Ok (verdict.AtomsFull x i j)) (sym k) ∙ ap (λ (x : Stop). (concluded S l (verdict_of x i j)).answer) (sym z);
         words = front-none run ∙ ap (λ (x : Stop). front (concluded S l (verdict_of x i j)).run run) (sym z);
       }
 
-  pub conclude-rows : y ≡ stop.RowsFull → Concluded S l i j y run (answer.RowsFull n i j) run
+  pub conclude-rows : y ≡ stop.RowsFull → Concluded S l i j y run (Ok (verdict.RowsFull n i j)) run
   conclude-rows z =
       record {
-        answer = ap (λ (x : ℕ). answer.RowsFull x i j) (sym k) ∙ ap (λ (x : Stop). (concluded S l (verdict_of x i j)).answer) (sym z);
+        answer = ap (λ (x : ℕ). Ok (verdict.RowsFull x i j)) (sym k) ∙ ap (λ (x : Stop). (concluded S l (verdict_of x i j)).answer) (sym z);
         words = front-none run ∙ ap (λ (x : Stop). front (concluded S l (verdict_of x i j)).run run) (sym z);
       }
 
@@ -181,21 +170,21 @@ leaves_none x work run = record { answer = refl; rows = front-none work; words =
 leaves-as : (x y : Result) (work run : List ℕ) (r : Answer) (work' run' : List ℕ) → x ≡ y → Leaves x work run r work' run' → Leaves y work run r work' run'
 leaves-as x y work run r work' run' e d = subst (λ (z : Result). Leaves z work run r work' run') e d
 
-pub searches-refused : (t work run : List ℕ) (f : Fault) (at : ℕ) → checked.Refused f at ≡ check_table t → Searches t work run (answer.Refused f at) work run
+pub searches-refused : (t work run : List ℕ) (r : Refusal) → Err r ≡ check_table t → Searches t work run (Err (refused.Table r)) work run
 unfolding search_of
-searches-refused t work run f at e = leaves-as _ _ work run _ work run (ap (search_with t (length work) (length run)) e) (leaves_none _ work run)
+searches-refused t work run r e = leaves-as _ _ work run _ work run (ap (search_with t (length work) (length run)) e) (leaves_none _ work run)
 
 module _ (t : List ℕ) (s : Shape) (g : GoodTable t s) (work run : List ℕ) where
   -- By the tests of a good table.
-  good : search_with t (length work) (length run) (checked.Good s) ≡ search_of t (length work) (length run)
+  good : search_with t (length work) (length run) (Ok s) ≡ search_of t (length work) (length run)
   unfolding search_of
   good = ap (search_with t (length work) (length run)) (sym g)
 
-  pub searches-small-work : length work < 103 → Searches t work run (answer.SmallWork (length work)) work run
+  pub searches-small-work : length work < 103 → Searches t work run (Err (refused.SmallWork (length work))) work run
   searches-small-work h = leaves-as _ _ work run _ work run (lt-then _ _ _ _ h refl ∙ good) (leaves_none _ work run)
 
   module _ (h : 103 ≤ length work) where
-    pub searches-small-run : length run < 2 * room_of (length work) → Searches t work run (answer.SmallRun (length run)) work run
+    pub searches-small-run : length run < 2 * room_of (length work) → Searches t work run (Err (refused.SmallRun (length run))) work run
     searches-small-run k = leaves-as _ _ work run _ work run (lt-else _ _ _ _ h (lt-then _ _ _ _ k refl) ∙ good) (leaves_none _ work run)
 
     module _ (k : 2 * room_of (length work) ≤ length run) where
@@ -203,7 +192,7 @@ module _ (t : List ℕ) (s : Shape) (g : GoodTable t s) (work run : List ℕ) wh
       unfolding bad_state
       start-bad b e = rw (start_is t s g, bads-are t s g) (sym e)
 
-      pub searches-bad : true ≡ bad_state t s s.start → Searches t work run (answer.Unsafe 0 0) work run
+      pub searches-bad : true ≡ bad_state t s s.start → Searches t work run (Ok (verdict.Unsafe 0 0)) work run
       unfolding search_system
       searches-bad b = leaves-as _ _ work run _ work run (lt-else _ _ _ _ h (lt-else _ _ _ _ k (true-then _ _ _ (start-bad true b) refl)) ∙ good) (leaves_none _ work run)
 
@@ -222,13 +211,11 @@ abbrev pub Counted : Result → Type 0
 Counted x = counted x.answer x.run
   where
     counted : Answer → List ℕ → Type 0
-    counted (answer.Refused f at) us = Unit {0}
-    counted (answer.SmallWork n) us = Unit {0}
-    counted (answer.SmallRun n) us = Unit {0}
-    counted (answer.Safe n) us = Unit {0}
-    counted (answer.Unsafe n k) us = k ≡ length us
-    counted (answer.RowsFull n i j) us = Unit {0}
-    counted (answer.AtomsFull n i j) us = Unit {0}
+    counted (Err e) us = Unit {0}
+    counted (Ok (verdict.Safe n)) us = Unit {0}
+    counted (Ok (verdict.Unsafe n k)) us = k ≡ length us
+    counted (Ok (verdict.RowsFull n i j)) us = Unit {0}
+    counted (Ok (verdict.AtomsFull n i j)) us = Unit {0}
 
 concluded-counted : (S : System) (l : List (Entry (frame_of S))) (v : Verdict) → Counted (concluded S l v)
 concluded-counted S l explore.safe = tt
@@ -253,9 +240,9 @@ pub search-counted : (t : List ℕ) (work run : ℕ) → Counted (search_of t wo
 unfolding search_of search_system
 search-counted t work run = go (check_table t)
   where
-    go : (c : Checked) → Counted (search_with t work run c)
-    go (checked.Refused f at) = tt
-    go (checked.Good s) =
+    go : (c : std.Result Shape Refusal) → Counted (search_with t work run c)
+    go (Err r) = tt
+    go (Ok s) =
         either-below Counted work 103 _ _ tt
         (either-below Counted run (2 * room_of work) _ _ tt
         (either_true Counted (is_in (system_of t).start (system_of t).bad) _ _ refl

@@ -1,15 +1,8 @@
 -- The rows that the words of the work table tell: each is a row of the table, in normal form and with at most 24 atoms in a product; and words that hold
 -- rows tell just these.
-use mathlib.Core.Path.{◌≡◌, refl, sym, ap, subst, ◌∙◌, fun_ext}
-use mathlib.Core.Bool.{true, false}
-use mathlib.Core.Logic.{◌⊎◌, inl, inr}
-use mathlib.Core.List.{List, [], ◌∷◌, ◌++◌}
-use Prim.Native.Nat.{ℕ, zero, suc, ◌+◌, ◌-◌, ◌*◌, ◌<◌, ◌≤◌}
-use native.Mathlib.Omega.{arith}
-use lib.Dec.{ltb}
-use lib.ListN.{length, get_or, drop, length-append, length-map}
-use lib.Seq.{drop-drop}
-use borrow.Author.Tests.{ltb-true, ltb-false}
+use Rattle.std.proofs.Common.{◌≡◌, refl, sym, ap, subst, ◌∙◌, true, false, ◌⊎◌, inl, inr, List, [], ◌∷◌, ◌++◌, ℕ, zero, suc, ◌+◌, ◌-◌, ◌*◌, ◌<◌, ◌≤◌, arith, ltb, length, get_or, drop, length-append, drop-drop, ltb-true, ltb-false}
+use Rattle.std.proofs.Math.Path.{fun_ext}
+use Rattle.std.proofs.Math.ListN.{length-map}
 use Rattle.common.specs.Front.{front}
 use Rattle.common.specs.First.{any_of}
 use Rattle.common.proofs.AtLaws.{At, at-below, at_map, at_same, grows_none, grows_at, grows_then}
@@ -19,6 +12,7 @@ use Rattle.common.proofs.EachLaws.{at_each}
 use Rattle.common.proofs.FrontLaws.{front-behind, front-again}
 use Rattle.meaning.specs.Systems.{System, WellMade}
 use Rattle.rows.specs.Rows.{Row, covers}
+use Rattle.rows.specs.Look as look
 use Rattle.rows.proofs.NormalLaws.{Normals}
 use Rattle.work.specs.Layout.{Stored, all_words, count_place, Narrow, NarrowRows, Holds}
 use Rattle.work.proofs.LayoutLaws.{all-length, held-state, held-parent, held_move, held-count, held-atoms}
@@ -50,12 +44,12 @@ module _ (S : System) where
 
   -- The look over the words is the look over the rows that they tell.
   looked : (w : List ℕ) (o : Row) (k i : ℕ) → any_of (λ s. covers S.channels s o) (rows_at w k i) ≡ any_of (λ e. covers S.channels e.row o) (entries_at S w k i)
-  unfolding rows_at entries_at any_of
+  unfolding look.rows_from entries_at any_of
   looked w o zero i = refl
   looked w o (suc k) i = rw (looked w o k (i + 1))
 
   pub look_is : (w : List ℕ) (rows : ℕ) (o : Row) → covered_in S.channels w rows o ≡ covered (frame_of S) (entries S w rows) o
-  unfolding covered_in covered
+  unfolding look.covered_in covered
   look_is w rows o = looked w o rows 0
 
   -- A list is told by words that tell each of its rows.

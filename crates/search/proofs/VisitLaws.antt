@@ -1,19 +1,13 @@
 -- The six tests of an outcome, on the words of the work table.
-use mathlib.Core.Path.{◌≡◌, refl, sym, ap, subst, ◌∙◌}
-use mathlib.Core.Bool.{Bool, true, false}
-use mathlib.Core.Logic.{◌⊎◌, inl, inr}
-use mathlib.Core.List.{List, [], ◌∷◌, ◌++◌, map-append}
-use mathlib.Core.Option.{Option, none, some, map}
-use Prim.Native.Nat.{ℕ, ◌+◌, ◌*◌, ◌<◌, ◌≤◌}
-use native.Mathlib.Omega.{arith}
-use lib.Dec.{ltb, eqb}
-use lib.ListN.{length, get_or, length-append, length-map}
-use borrow.Author.Tests.{ltb-true, ltb-false}
+use Rattle.std.proofs.Common.{◌≡◌, refl, sym, ap, subst, ◌∙◌, Bool, true, false, ◌⊎◌, inl, inr, List, [], ◌∷◌, ◌++◌, Result, Ok, Err, ℕ, ◌+◌, ◌*◌, ◌<◌, ◌≤◌, arith, ltb, eqb, length, get_or, take, length-append, ltb-true, ltb-false}
+use mathlib.Core.List.{map-append}
+use Rattle.std.proofs.Math.Option.{Option, none, some, map}
+use Rattle.std.proofs.Common as std
+use Rattle.std.proofs.Math.ListN.{length-map}
 use Rattle.common.specs.Part.{part}
 use Rattle.common.specs.Store.{put_at}
 use Rattle.common.proofs.AtLaws.{At, at_map, Grows}
 use Rattle.common.proofs.BoolLaws.{either}
-use Rattle.common.proofs.PartLaws.{part_length}
 use Rattle.common.proofs.ChoiceLaws.{true-then, true-else, lt-then, lt-else}
 use Rattle.meaning.specs.Systems.{Move, System}
 use Rattle.meaning.proofs.PutLaws.{put_same, put-each}
@@ -27,7 +21,9 @@ use Rattle.table.specs.declared.transitions.Transition.{Transition}
 use Rattle.table.proofs.SystemLaws.{channels-are, moves-length, move-at, bads-are, well-made, few-channels, few-messages}
 use Rattle.work.specs.Layout.{Stored, Holds}
 use Rattle.work.specs.Append.{next_row}
+use Rattle.work.specs.Room.{room_of}
 use Rattle.work.proofs.AppendLaws.{append-holds}
+use Rattle.work.proofs.RoomLaws.{room-few}
 use Rattle.explore.specs.Search.{Entry, covered, on, tests}
 use Rattle.explore.proofs.WalkLaws.{Kept, tests-kept}
 use Rattle.findings.specs.Search.{is_too_wide, frame_of, first_entry, outcome_at, bad_row}
@@ -36,19 +32,13 @@ use Rattle.outcome.specs.Look.{row_at, outcome_row, covered_in, Sized, product_a
 use Rattle.search.specs.Standing.{entry_at, entries, stored_of, stored, Standing}
 use Rattle.search.specs.Visits.{Tests, goes, stops}
 use Rattle.outcome.specs.Changes.{changed_in, FewChanged}
-use Rattle.outcome.specs.declared.outcomes.Changed.{Changed}
-use Rattle.outcome.specs.declared.outcomes.Changed.TheVariants as changed
+use Rattle.rows.specs.declared.changes.Changed.{Changed}
 use Rattle.search.specs.declared.visits.Stop.TheVariants.{Unsafe, AtomsFull, RowsFull}
-use Rattle.search.specs.declared.visits.Visited.{Visited}
-use Rattle.search.specs.declared.visits.Visited.TheVariants.{On, Ends}
+use Rattle.search.specs.declared.visits.Stop.{Stop}
 use Rattle.search.proofs.StandingLaws.{entries-count, entry-there, grown-none, look_is, narrow-rows, tells, standing-few, standing-sized, standing-normal}
 
--- The first words of a product are as many as they are counted.
-pub long : (n : ℕ) (p : List ℕ) → n ≤ length p → 24 < n → 24 < length (part 0 n p)
-long n p h k = omega (arith, part_length 0 n p h)
-
-pub few-changed : (r : Changed) (c n : ℕ) → r ≡ changed.To c n → FewChanged r → n ≤ 25
-few-changed r c n e f = (subst FewChanged e f).1
+pub few-changed : (r : std.Option Changed) (d : Changed) → r ≡ std.Some d → FewChanged r → d.count ≤ 25
+few-changed r d e f = (subst FewChanged e f).1
 
 module _ (t : List ℕ) (s : Shape) (g : GoodTable t s) where
   abbrev S : System
@@ -61,6 +51,9 @@ module _ (t : List ℕ) (s : Shape) (g : GoodTable t s) where
     pub few_rows : rows ≤ room
     few_rows = standing-few S (well-made t s g) (few-messages t s g) (few-channels t s g) room w rows st
 
+    pub few-room : room ≡ room_of (length w) → rows ≤ 1024
+    few-room e = omega (arith, few_rows, e, room-few (length w))
+
     pub normals : (i : ℕ) → i < rows → Normals (product_at w i)
     normals i h = standing-normal S (well-made t s g) (few-messages t s g) (few-channels t s g) room w rows st i h
 
@@ -71,7 +64,7 @@ module _ (t : List ℕ) (s : Shape) (g : GoodTable t s) where
       move : j < length S.moves
       move = rw (moves-length t s g) m
 
-      abbrev Goal : Visited → List ℕ → Type 0
+      abbrev Goal : Result ℕ Stop → List ℕ → Type 0
       Goal r v = Tests S room w rows i j (some o) r v
 
       -- How the tests answer for the system's rows.
@@ -113,22 +106,22 @@ module _ (t : List ℕ) (s : Shape) (g : GoodTable t s) where
           (put-each (product_at w i) channel q (λ d x. length x ≤ 24) k
           (λ d n. entry-narrow S (well-made t s g) (few-messages t s g) room (entries S w rows) st.made i (entry_at S w i) there d))
 
-      pub test-bad : true ≡ bad_state t s target → Goal (Ends Unsafe) w
+      pub test-bad : true ≡ bad_state t s target → Goal (Err Unsafe) w
       unfolding tests
       test-bad b = stops {y = Unsafe} (sym (true-then _ _ _ (bad-is true b) refl))
 
       module _ (b : false ≡ bad_state t s target) where
-        pub test-covered : true ≡ covered_in s.channels w rows o → Goal (On rows) w
+        pub test-covered : true ≡ covered_in s.channels w rows o → Goal (Ok rows) w
         unfolding tests
         test-covered c = goes (sym (true-else _ _ _ (bad-is false b) (true-then _ _ _ (covered-is true c) refl))) (grown-none S room w rows st)
 
         module _ (c : false ≡ covered_in s.channels w rows o) where
-          pub test-wide : 24 < length q → Goal (Ends AtomsFull) w
+          pub test-wide : 24 < length q → Goal (Err AtomsFull) w
           unfolding tests
           test-wide k = stops {y = AtomsFull} (sym (true-else _ _ _ (bad-is false b) (true-else _ _ _ (covered-is false c) (true-then _ _ _ (wide_is k) refl))))
 
           module _ (k : length q ≤ 24) where
-            pub test-full : room ≤ rows → Goal (Ends RowsFull) w
+            pub test-full : room ≤ rows → Goal (Err RowsFull) w
             unfolding tests
             test-full f =
                 stops {y = RowsFull}
@@ -152,7 +145,7 @@ module _ (t : List ℕ) (s : Shape) (g : GoodTable t s) where
                   subst (Kept (frame_of S) room (first_entry S) (entries S w rows)) (ap (tests (frame_of S) room (entries S w rows) i j) comes ∙ goes_on)
                   (tests-kept (frame_of S) room (first_entry S) (entries S w rows) (entry_at S w i) i j st.made there move)
 
-              pub test-append : (v : List ℕ) (a b : ℕ) → a ≡ target → b ≡ j → v ≡ put_at w (103 * rows) (next_row w a i b channel q) → Goal (On (rows + 1)) v
+              pub test-append : (v : List ℕ) (a b : ℕ) → a ≡ target → b ≡ j → v ≡ put_at w (103 * rows) (next_row w a i b channel q) → Goal (Ok (rows + 1)) v
               test-append v a b x y e =
                   let a : Holds v (stored S grown) w =
                   subst (λ (x : List Stored). Holds v x w) (sym (map-append (stored_of S) (entries S w rows) (new ∷ [])))
@@ -173,26 +166,27 @@ module _ (t : List ℕ) (s : Shape) (g : GoodTable t s) where
           (move-at t s g j m ∙ ap (λ (x : Transition). some (move_of x)) (sym e))
 
       -- What the tests of an impossible outcome say.
-      test-none : outcome_at S (row_at w i) j ≡ none → Tests S room w rows i j (outcome_at S (row_at w i) j) (On rows) w
+      test-none : outcome_at S (row_at w i) j ≡ none → Tests S room w rows i j (outcome_at S (row_at w i) j) (Ok rows) w
       unfolding tests
-      test-none z = subst (λ (x : Option Row). Tests S room w rows i j x (On rows) w) (sym z) (goes refl (grown-none S room w rows st))
+      test-none z = subst (λ (x : Option Row). Tests S room w rows i j x (Ok rows) w) (sym z) (goes refl (grown-none S room w rows st))
 
-      pub visit-elsewhere : (get_or w (103 * i) 0 ≡ u.source → ⊥) → Tests S room w rows i j (outcome_at S (row_at w i) j) (On rows) w
+      pub visit-elsewhere : (get_or w (103 * i) 0 ≡ u.source → ⊥) → Tests S room w rows i j (outcome_at S (row_at w i) j) (Ok rows) w
       visit-elsewhere n = test-none (at-move ∙ outcome-elsewhere (move_of u) (row_at w i) n)
 
-      module _ (z : get_or w (103 * i) 0 ≡ u.source) (b : List ℕ) (r : Changed)
+      module _ (z : get_or w (103 * i) 0 ≡ u.source) (b : List ℕ) (r : std.Option Changed)
           (says : changed_in r (product_at w i) b ≡ normal_after (eqb u.source u.target) (operation_of u.operation) (product_at w i)) where
         comes-is : outcome_at S (row_at w i) j ≡ map (arrived (move_of u)) (changed_in r (product_at w i) b)
         comes-is =
             at-move ∙ outcome-here (move_of u) (row_at w i) z (normals i h)
             ∙ ap (map (arrived (move_of u))) (sym says)
 
-        pub visit-impossible : r ≡ changed.Impossible → Tests S room w rows i j (outcome_at S (row_at w i) j) (On rows) w
-        visit-impossible k = test-none (comes-is ∙ ap (λ (x : Changed). map (arrived (move_of u)) (changed_in x (product_at w i) b)) k)
+        pub visit-impossible : r ≡ std.None → Tests S room w rows i j (outcome_at S (row_at w i) j) (Ok rows) w
+        visit-impossible k = test-none (comes-is ∙ ap (λ (x : std.Option Changed). map (arrived (move_of u)) (changed_in x (product_at w i) b)) k)
 
-        pub visit-comes : (c n : ℕ) → r ≡ changed.To c n → outcome_at S (row_at w i) j ≡ some (outcome_row w u.target i c (part 0 n b))
-        visit-comes c n k = comes-is ∙ ap (λ (x : Changed). map (arrived (move_of u)) (changed_in x (product_at w i) b)) k
+        pub visit-comes : (d : Changed) → r ≡ std.Some d → outcome_at S (row_at w i) j ≡ some (outcome_row w u.target i d.channel (take d.count b))
+        unfolding part
+        visit-comes d k = comes-is ∙ ap (λ (x : std.Option Changed). map (arrived (move_of u)) (changed_in x (product_at w i) b)) k
 
       -- What the tests of the outcome say, the move's outcome being that.
-      pub visit-tested : (o : Row) (r : Visited) (v : List ℕ) → outcome_at S (row_at w i) j ≡ some o → Tests S room w rows i j (some o) r v → Tests S room w rows i j (outcome_at S (row_at w i) j) r v
+      pub visit-tested : (o : Row) (r : Result ℕ Stop) (v : List ℕ) → outcome_at S (row_at w i) j ≡ some o → Tests S room w rows i j (some o) r v → Tests S room w rows i j (outcome_at S (row_at w i) j) r v
       visit-tested o r v z d = subst (λ (x : Option Row). Tests S room w rows i j x r v) (sym z) d

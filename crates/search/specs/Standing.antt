@@ -1,8 +1,9 @@
 -- The rows that the words of the work table tell, as rows of the search.
-use Rattle.std.specs.Prelude.{◌≡◌, List, [], ◌∷◌, map, ℕ, zero, suc, ◌+◌, ◌*◌, get_or, drop}
+use Rattle.std.specs.Prelude.{◌≡◌, List, [], ◌∷◌, map, ℕ, zero, suc, ◌+◌, ◌*◌, get_or, length, drop}
 use Rattle.common.proofs.AtLaws.{Grows}
 use Rattle.meaning.specs.Systems.{System}
 use Rattle.work.specs.Layout.{Stored, Holds}
+use Rattle.work.specs.Room.{room_of}
 use Rattle.explore.specs.Search.{Entry}
 use Rattle.explore.specs.Found.{Rows}
 use Rattle.findings.specs.Search.{frame_of, first_entry}
@@ -33,6 +34,10 @@ module _ (S : System) where
   pub record Standing (room : ℕ) (w : List ℕ) (rows : ℕ) : Type 0 where
     pub made : Rows (frame_of S) room (first_entry S) (entries w rows)
     pub laid : Holds w (stored (entries w rows)) w
+
+  -- With the room that the words have.
+  abbrev pub Stands : List ℕ → ℕ → Type 0
+  Stands w rows = Standing (room_of (length w)) w rows
 
   -- From the words w with so many rows the words v with n rows came: the rows are still there, and what stands behind the n rows is as it was.
   pub record Grown (room : ℕ) (w : List ℕ) (rows : ℕ) (v : List ℕ) (n : ℕ) : Type 0 where

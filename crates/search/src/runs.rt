@@ -1,88 +1,58 @@
 // The run to a bad outcome, rebuilt from its end with every channel empty.
 ghost use Rattle.std.specs.Prelude.{◌≡◌, ◌+◌, ◌*◌, ◌<◌, ◌≤◌, length};
 ghost use Rattle.common.specs.Front.{front};
-ghost use Rattle.common.specs.Part.{part};
-ghost use Rattle.table.specs.Systems.{GoodTable, system_of};
-ghost use Rattle.channels.specs.Contents.{contents_in};
+ghost use Rattle.table.specs.Systems.{system_of};
+ghost use Rattle.work.specs.Room.{room_of};
 ghost use Rattle.findings.specs.Rebuild.{rebuilt, run_of};
 ghost use Rattle.findings.proofs.LengthLaws.{size};
-ghost use Rattle.back.specs.Needs.{Needed};
-ghost use Rattle.search.specs.Standing.{entries, Standing};
+ghost use Rattle.back.specs.Needs.{needed, Needed, standing};
+ghost use Rattle.search.specs.Standing.{entries, Stands};
 
-use atoms::copies::copy_front;
+use crate::passes::Ended;
 use back::moves::back_over;
-use table::Shape;
+use back::needs::Needs;
+use back::tails::Tail;
+use table::Table;
 use work::reading::{move_of, parent_of};
 
-// Goes back from row i to row 0, and puts the words of each move in front of those that stand from `at` on. Answers where they stand then. Inner.
-fn back_to_start(
-    t: &[u8],
-    s: Shape,
-    w: &[u16],
-    rows: usize,
-    room: usize,
-    i: usize,
-    store: &mut [u8],
-    ends: &mut [usize],
-    words: &mut [u16],
-    at: usize,
-) -> usize
-    requires good_table { GoodTable t.now s × Standing (system_of t.now) room w.now rows × (i < rows) × (room ≤ 1024) }
-    requires needed { Needed 1 store.old ends.old × (length words.old ≡ 2048) × (at ≤ 2048) }
-    requires i_bound { 2048 + size (system_of t.now).channels (contents_in store.old ends.old) + 2 * i ≤ at + 2 * room }
-    ensures words_after { part result 2048 words.new ≡ rebuilt (system_of t.now) i (entries (system_of t.now) w.now rows) i (contents_in store.old ends.old) (part at 2048 words.old) }
-    ensures upper_bound { (result ≤ 2048) × (2048 ≤ result + 2 * room) }
+// Goes back from the row where the search ended to row 0, and puts the words of each move in front of those that stand. Inner.
+fn back_to_start(table: &Table, w: &[u16], end: Ended, needs: &mut Needs, run: &mut Tail)
+    requires there { Stands (system_of table.now.bytes.now) w.now end.rows × (end.row < end.rows) }
+    requires few_needed { Needed 1 needs.old }
+    requires room { 2048 + size (system_of table.now.bytes.now).channels (needed needs.old) + 2 * end.row ≤ run.old.at + 2 * room_of (length w.now) }
+    ensures words { standing run.new ≡ rebuilt (system_of table.now.bytes.now) end.row (entries (system_of table.now.bytes.now) w.now end.rows) end.row (needed needs.old) (standing run.old) }
+    ensures few_words { 2048 ≤ run.new.at + 2 * room_of (length w.now) }
 {
-    let mut place = at;
-    let mut row = i;
+    let mut row = end.row;
     while 0 < row {
-        place = back_over(t, s, move_of(w, row), store, ends, words, place);
+        back_over(table, move_of(w, row), needs, run);
         row = parent_of(w, row);
     }
-    place
 }
 
-// Rebuilds the run whose last move is transition j of row i, at the end of the words. Answers where it begins. Inner.
-fn rebuild(
-    t: &[u8],
-    s: Shape,
-    w: &[u16],
-    rows: usize,
-    room: usize,
-    i: usize,
-    j: usize,
-    store: &mut [u8],
-    ends: &mut [usize],
-    words: &mut [u16],
-) -> usize
-    requires good_table { GoodTable t.now s × Standing (system_of t.now) room w.now rows × (i < rows) × (room ≤ 1024) × (j < s.transitions) }
-    requires needed { Needed 0 store.old ends.old × (length words.old ≡ 2048) }
-    ensures words_after { part result 2048 words.new ≡ run_of (system_of t.now) (entries (system_of t.now) w.now rows) i j }
-    ensures upper_bound { (result ≤ 2048) × (2048 ≤ result + 2 * room) }
+// Rebuilds the run whose last move is the transition where the search ended. Inner.
+fn rebuild(table: &Table, w: &[u16], end: Ended) -> Tail
+    requires there { Stands (system_of table.now.bytes.now) w.now end.rows × (end.row < end.rows) × (end.transition < table.now.shape.transitions) }
+    ensures words { standing result ≡ run_of (system_of table.now.bytes.now) (entries (system_of table.now.bytes.now) w.now end.rows) end.row end.transition }
+    ensures few_words { 2048 ≤ result.at + 2 * room_of (length w.now) }
 {
-    let at = back_over(t, s, j, store, ends, words, 2048);
-    back_to_start(t, s, w, rows, room, i, store, ends, words, at)
+    let mut needs = Needs::none();
+    let mut run = Tail::new();
+    back_over(table, end.transition, &mut needs, &mut run);
+    back_to_start(table, w, end, &mut needs, &mut run);
+    run
 }
 
 // Writes that run into the first words of the run buffer, and answers how many they are. Inner.
-pub fn write_run(
-    t: &[u8],
-    s: Shape,
-    w: &[u16],
-    rows: usize,
-    room: usize,
-    i: usize,
-    j: usize,
-    run: &mut [u16],
-) -> usize
-    requires { GoodTable t.now s × Standing (system_of t.now) room w.now rows × (i < rows) × (room ≤ 1024) × (j < s.transitions) × (2 * room ≤ length run.old) }
-    ensures value { result ≡ length (run_of (system_of t.now) (entries (system_of t.now) w.now rows) i j) }
-    ensures run_after { run.new ≡ front (run_of (system_of t.now) (entries (system_of t.now) w.now rows) i j) run.old }
+pub fn write_run(table: &Table, w: &[u16], end: Ended, run: &mut [u16]) -> usize
+    requires there { Stands (system_of table.now.bytes.now) w.now end.rows × (end.row < end.rows) × (end.transition < table.now.shape.transitions) }
+    requires room { 2 * room_of (length w.now) ≤ length run.old }
+    ensures steps { result ≡ length (run_of (system_of table.now.bytes.now) (entries (system_of table.now.bytes.now) w.now end.rows) end.row end.transition) }
+    ensures words { run.new ≡ front (run_of (system_of table.now.bytes.now) (entries (system_of table.now.bytes.now) w.now end.rows) end.row end.transition) run.old }
 {
-    let mut store = [0u8; 8192];
-    let mut ends = [2048usize; 8];
-    let mut words = [0u16; 2048];
-    let at = rebuild(t, s, w, rows, room, i, j, &mut store, &mut ends, &mut words);
-    copy_front(&words, at, 2048, run);
-    2048 - at
+    let rebuilt = rebuild(table, w, end);
+    let words = rebuilt.standing();
+    let steps = words.len();
+    run[..steps].copy_from_slice(words);
+    steps
 }

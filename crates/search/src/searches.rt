@@ -1,29 +1,23 @@
 // The search of a table. Any bytes and any lent words are taken.
-ghost use Rattle.std.specs.Prelude.{◌*◌, ◌<◌, ◌≤◌, length};
-ghost use Rattle.table.specs.Systems.{GoodTable, system_of};
+ghost use Rattle.std.specs.Prelude.{◌≡◌, ◌*◌, ◌<◌, ◌≤◌, length, Ok};
+ghost use Rattle.table.specs.Systems.{system_of};
+ghost use Rattle.work.specs.Room.{room_of};
 ghost use Rattle.explore.specs.Search as explore;
 ghost use Rattle.findings.specs.Search.{frame_of, first_entry};
-ghost use Rattle.search.specs.Standing.{entries, Standing};
+ghost use Rattle.search.specs.Standing.{entries, Stands};
 ghost use Rattle.search.specs.Searching.{found_by, Leaves, Concluded, Searches};
 
-use crate::passes::{Walked, walk_rows};
+use crate::passes::{Ended, walk_rows};
 use crate::runs::write_run;
 use crate::visits::Stop;
-use table::{Checked, Fault, Shape, check_table, is_bad};
+use table::{Refusal, Table};
 use work::appending::start_row;
 use work::reading::room_of;
-use work::writing::word;
 
-// The answer to a table and lent words: the table's refusal; a work table of that length is too short, or a run buffer; safe, with so many rows;
-// unsafe, with so many rows and steps; no room for the outcome of that row's transition, or no row holds it, with so many rows.
-#[derive(Clone, Copy)]
-pub enum Answer {
-    Refused {
-        fault: Fault,
-        at: usize,
-    },
-    SmallWork(usize),
-    SmallRun(usize),
+// What the search of a table finds: safe, with so many rows; unsafe, with so many rows and steps; no room for the outcome of that row's transition, or no
+// row holds it, with so many rows.
+#[derive(Clone, Copy, Debug, PartialEq, Eq)]
+pub enum Verdict {
     Safe(usize),
     Unsafe {
         rows: usize,
@@ -41,95 +35,89 @@ pub enum Answer {
     },
 }
 
-// The answer where the search ended at a transition of row i; only with unsafe the run buffer is written. Inner.
-fn conclude(
-    t: &[u8],
-    s: Shape,
-    w: &[u16],
-    rows: usize,
-    room: usize,
-    why: Stop,
-    i: usize,
-    j: usize,
-    run: &mut [u16],
-) -> Answer
-    requires { GoodTable t.now s × Standing (system_of t.now) room w.now rows × (i < rows) × (room ≤ 1024) × (j < s.transitions) × (2 * room ≤ length run.old) }
-    ensures { Concluded (system_of t.now) (entries (system_of t.now) w.now rows) i j why run.old result run.new }
+// Why no table is searched: the table's refusal; a work table of that length is too short, or a run buffer.
+#[derive(Clone, Copy, Debug, PartialEq, Eq)]
+pub enum Refused {
+    Table(Refusal),
+    SmallWork(usize),
+    SmallRun(usize),
+}
+
+impl From<Refusal> for Refused {
+    ghost use Rattle.search.specs.declared.searches.Refused.TheVariants.{Table};
+
+    ghost from_gives = { λ refusal refused. refused ≡ Table refusal };
+
+    fn from(refusal: Refusal) -> Refused {
+        Refused::Table(refusal)
+    }
+}
+
+// The verdict where the search ended at a transition; only with unsafe the run buffer is written. Inner.
+fn conclude(table: &Table, w: &[u16], end: Ended, run: &mut [u16]) -> Verdict
+    requires there { Stands (system_of table.now.bytes.now) w.now end.rows × (end.row < end.rows) × (end.transition < table.now.shape.transitions) }
+    requires room { 2 * room_of (length w.now) ≤ length run.old }
+    ensures { Concluded (system_of table.now.bytes.now) (entries (system_of table.now.bytes.now) w.now end.rows) end.row end.transition end.why run.old (Ok result) run.new }
 {
+    let Ended {
+        why,
+        rows,
+        row,
+        transition,
+    } = end;
     match why {
         Stop::Unsafe => {
-            let steps = write_run(t, s, w, rows, room, i, j, run);
-            return Answer::Unsafe { rows, steps };
+            let steps = write_run(table, w, end, run);
+            Verdict::Unsafe { rows, steps }
         }
-        Stop::AtomsFull => {
-            return Answer::AtomsFull {
-                rows,
-                row: i,
-                transition: j,
-            };
-        }
-        Stop::RowsFull => {
-            return Answer::RowsFull {
-                rows,
-                row: i,
-                transition: j,
-            };
-        }
+        Stop::AtomsFull => Verdict::AtomsFull {
+            rows,
+            row,
+            transition,
+        },
+        Stop::RowsFull => Verdict::RowsFull {
+            rows,
+            row,
+            transition,
+        },
     }
 }
 
 // The search where there is room and the start is not bad. Inner.
-fn search_rows(t: &[u8], s: Shape, room: usize, work: &mut [u16], run: &mut [u16]) -> Answer
-    requires { GoodTable t.now s × (1 ≤ room) × (room ≤ 1024) × (103 * room ≤ length work.old) × (2 * room ≤ length run.old) }
-    ensures { Leaves (found_by (system_of t.now) (explore.search (frame_of (system_of t.now)) room (first_entry (system_of t.now)))) work.old run.old result work.new run.new }
+fn search_rows(table: &Table, work: &mut [u16], run: &mut [u16]) -> Verdict
+    requires { (103 ≤ length work.old) × (2 * room_of (length work.old) ≤ length run.old) }
+    ensures { Leaves (found_by (system_of table.now.bytes.now) (explore.search (frame_of (system_of table.now.bytes.now)) (room_of (length work.old)) (first_entry (system_of table.now.bytes.now)))) work.old run.old (Ok result) work.new run.new }
 {
-    start_row(work, word(s.start));
+    start_row(work, table.shape.start as u16);
     let mut buffer = [0u16; 25];
-    match walk_rows(t, s, work, room, &mut buffer) {
-        Walked::Safe(rows) => {
-            return Answer::Safe(rows);
-        }
-        Walked::Ended {
-            why,
-            rows,
-            row,
-            transition,
-        } => {
-            return conclude(t, s, work, rows, room, why, row, transition, run);
-        }
+    match walk_rows(table, work, &mut buffer) {
+        Ok(rows) => Verdict::Safe(rows),
+        Err(end) => conclude(table, work, end, run),
     }
 }
 
 // The search of a good table, for callers that have checked it: the lent words are enough, or they are refused. Inner.
-pub fn search_good(t: &[u8], s: Shape, work: &mut [u16], run: &mut [u16]) -> Answer
-    requires { GoodTable t.now s }
-    ensures { Searches t.now work.old run.old result work.new run.new }
+pub fn search_good(table: &Table, work: &mut [u16], run: &mut [u16]) -> Result<Verdict, Refused>
+    ensures { Searches table.now.bytes.now work.old run.old result work.new run.new }
 {
     let words = work.len();
     if words < 103 {
-        return Answer::SmallWork(words);
+        return Err(Refused::SmallWork(words));
     }
-    let room = room_of(words);
     let places = run.len();
-    if places < 2 * room {
-        return Answer::SmallRun(places);
+    if places < 2 * room_of(words) {
+        return Err(Refused::SmallRun(places));
     }
-    if is_bad(t, s, s.start) {
-        return Answer::Unsafe { rows: 0, steps: 0 };
+    if table.is_bad(table.shape.start) {
+        return Ok(Verdict::Unsafe { rows: 0, steps: 0 });
     }
-    search_rows(t, s, room, work, run)
+    Ok(search_rows(table, work, run))
 }
 
 // The search: its verdict, the rows in the work table, and with unsafe the run in the first words of the run buffer.
-pub fn search(t: &[u8], work: &mut [u16], run: &mut [u16]) -> Answer
+pub fn search(t: &[u8], work: &mut [u16], run: &mut [u16]) -> Result<Verdict, Refused>
     ensures { Searches t.now work.old run.old result work.new run.new }
 {
-    match check_table(t) {
-        Checked::Refused { fault, at } => {
-            return Answer::Refused { fault, at };
-        }
-        Checked::Good(s) => {
-            return search_good(t, s, work, run);
-        }
-    }
+    let table = Table::check(t)?;
+    search_good(&table, work, run)
 }

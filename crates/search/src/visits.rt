@@ -1,99 +1,92 @@
 // The visit of one move of a row: its outcome, and the six tests of it in order.
-ghost use Rattle.std.specs.Prelude.{◌≡◌, ◌<◌, ◌≤◌, ◌*◌, length};
+ghost use Rattle.std.specs.Prelude.{◌≡◌, ◌<◌, ◌≤◌, length};
 ghost use Rattle.std.proofs.Math.Option.{some};
-ghost use Rattle.common.specs.Part.{part};
-ghost use Rattle.table.specs.Systems.{GoodTable, system_of};
+ghost use Rattle.table.specs.Systems.{system_of};
+ghost use Rattle.rows.specs.Look.{outcome_row};
+ghost use Rattle.work.specs.Room.{room_of};
 ghost use Rattle.findings.specs.Search.{outcome_at};
-ghost use Rattle.outcome.specs.Look.{row_at, outcome_row};
-ghost use Rattle.search.specs.Standing.{Standing};
+ghost use Rattle.outcome.specs.Look.{row_at};
+ghost use Rattle.search.specs.Standing.{Stands};
 ghost use Rattle.search.specs.Visits.{Tests};
 
-use outcome::look::is_covered;
-use outcome::outcomes::{Changed, outcome_into};
-use table::{Shape, is_bad, transition_at};
+use outcome::outcomes::outcome_into;
+use outcome::reading::WorkRows;
+use rows::{Outcome, is_covered};
+use table::Table;
 use work::appending::append_row;
-use work::reading::state_of;
-use work::writing::word;
+use work::reading::{room_of, state_of};
 
 // Why the search ends before its last row.
-#[derive(Clone, Copy)]
+#[derive(Clone, Copy, Debug, PartialEq, Eq)]
 pub enum Stop {
     Unsafe,
     AtomsFull,
     RowsFull,
 }
 
-// The answer of a visit: go on with so many rows, or end.
-#[derive(Clone, Copy)]
-pub enum Visited {
-    On(usize),
-    Ends(Stop),
-}
-
-// The tests of an outcome that is possible: in state target, with the products of row i, but at `channel` the first n words of product. It is bad;
-// contained in a row; too wide; there is no room; else it is appended. Inner.
+// The tests of the outcome of a transition. It is bad; contained in a row; too wide; there is no room; else it is appended. Answers how many rows there
+// are then, or why the search ends. Inner.
 fn test_outcome(
-    t: &[u8],
-    s: Shape,
+    table: &Table,
     w: &mut [u16],
     rows: usize,
-    room: usize,
-    i: usize,
-    j: usize,
-    target: usize,
-    channel: usize,
-    product: &[u16],
-    n: usize,
-) -> Visited
-    requires good_table { GoodTable t.now s }
-    requires standing { Standing (system_of t.now) room w.old rows }
-    requires j_value { outcome_at (system_of t.now) (row_at w.old i) j ≡ some (outcome_row w.old target i channel (part 0 n product.now)) }
-    requires i_lt_rows { (i < rows) × (j < s.transitions) × (target < 65536) × (103 * room ≤ length w.old) × (room ≤ 1024) × (n ≤ length product.now) }
-    ensures { Tests (system_of t.now) room w.old rows i j (some (outcome_row w.old target i channel (part 0 n product.now))) result w.new }
+    outcome: &Outcome,
+    transition: usize,
+) -> Result<usize, Stop>
+    requires standing { Stands (system_of table.now.bytes.now) w.old rows }
+    requires comes { outcome_at (system_of table.now.bytes.now) (row_at w.old outcome.now.source_row) transition ≡ some (outcome_row (row_at w.old) outcome.now) }
+    requires there { (outcome.now.source_row < rows) × (transition < table.now.shape.transitions) × (outcome.now.target < 65536) }
+    ensures { Tests (system_of table.now.bytes.now) (room_of (length w.old)) w.old rows outcome.now.source_row transition (some (outcome_row (row_at w.old) outcome.now)) result w.new }
 {
-    if is_bad(t, s, target) {
-        return Visited::Ends(Stop::Unsafe);
+    if table.is_bad(outcome.target) {
+        return Err(Stop::Unsafe);
     }
-    if is_covered(w, rows, i, target, s.channels, channel, product, n) {
-        return Visited::On(rows);
+    let made = WorkRows {
+        words: w,
+        count: rows,
+    };
+    if is_covered(&made, table.shape.channels, outcome) {
+        return Ok(rows);
     }
-    if 24 < n {
-        return Visited::Ends(Stop::AtomsFull);
+    if 24 < outcome.product.len() {
+        return Err(Stop::AtomsFull);
     }
-    if room <= rows {
-        return Visited::Ends(Stop::RowsFull);
+    if room_of(w.len()) <= rows {
+        return Err(Stop::RowsFull);
     }
-    append_row(w, rows, word(target), i, word(j), channel, product, n);
-    Visited::On(rows + 1)
+    append_row(w, rows, outcome, transition as u16);
+    Ok(rows + 1)
 }
 
 // Visits move j of row i: its outcome, with the product that changes in the buffer's first words, and the tests of it. Inner.
 pub fn visit_move(
-    t: &[u8],
-    s: Shape,
+    table: &Table,
     w: &mut [u16],
     rows: usize,
-    room: usize,
     i: usize,
     j: usize,
     buffer: &mut [u16],
-) -> Visited
-    requires good_table { GoodTable t.now s }
-    requires standing { Standing (system_of t.now) room w.old rows }
-    requires i_lt_rows { (i < rows) × (j < s.transitions) × (103 * room ≤ length w.old) × (room ≤ 1024) × (25 ≤ length buffer.old) }
-    ensures { Tests (system_of t.now) room w.old rows i j (outcome_at (system_of t.now) (row_at w.old i) j) result w.new }
+) -> Result<usize, Stop>
+    requires standing { Stands (system_of table.now.bytes.now) w.old rows }
+    requires there { (i < rows) × (j < table.now.shape.transitions) × (25 ≤ length buffer.old) }
+    ensures { Tests (system_of table.now.bytes.now) (room_of (length w.old)) w.old rows i j (outcome_at (system_of table.now.bytes.now) (row_at w.old i) j) result w.new }
 {
-    let m = transition_at(t, j);
-    if state_of(w, i) == m.source {
-        let operation = m.operation;
-        match outcome_into(w, rows, i, operation, m.source == m.target, buffer) {
-            Changed::Impossible => {
-                return Visited::On(rows);
-            }
-            Changed::To { channel, count } => {
-                return test_outcome(t, s, w, rows, room, i, j, m.target, channel, buffer, count);
-            }
-        }
+    let m = table.transition(j);
+    if state_of(w, i) != m.source {
+        return Ok(rows);
     }
-    Visited::On(rows)
+    let made = WorkRows {
+        words: w,
+        count: rows,
+    };
+    let Some(changed) = outcome_into(&made, i, m.operation, m.source == m.target, buffer) else {
+        return Ok(rows);
+    };
+    let outcome = Outcome {
+        target: m.target,
+        source_row: i,
+        channel: changed.channel,
+        product: &buffer[..changed.count],
+    };
+    test_outcome(table, w, rows, &outcome, j)
 }

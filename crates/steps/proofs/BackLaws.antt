@@ -1,27 +1,23 @@
 -- What is written of an unsafe table is read back: its lines say the words of the run.
-use mathlib.Core.Path.{◌≡◌, refl, sym, ap, ◌∙◌}
-use mathlib.Core.Bool.{Bool, true, false}
-use mathlib.Core.Logic.{◌⊎◌, inl, inr}
-use mathlib.Core.List.{List, [], ◌∷◌, ◌++◌, append_assoc, append-nil}
-use mathlib.Core.Option.{Option, some}
-use Prim.Native.Nat.{ℕ, zero, suc, ◌+◌, ◌*◌, ◌-◌, ◌/◌, ◌%◌, ◌<◌, ◌≤◌}
-use native.Mathlib.Omega.{arith}
-use native.Mathlib.Decide.{dec_le}
-use lib.ListN.{length, get_elem?}
-use borrow.Author.Tests.{ltb-true, ltb-false}
+use Rattle.std.proofs.Common.{◌≡◌, refl, sym, ap, ◌∙◌, Bool, true, false, ◌⊎◌, inl, inr, List, [], ◌∷◌, ◌++◌, append_assoc, append-nil, ℕ, zero, suc, ◌+◌, ◌*◌, ◌-◌, ◌/◌, ◌%◌, ◌<◌, ◌≤◌, length, arith, ltb-true, ltb-false}
+use Rattle.std.specs.Prelude.{Some, None}
+use Rattle.std.proofs.Math.Option.{Option, some}
+use Rattle.std.proofs.Math.Decide.{dec_le}
+use Rattle.std.proofs.Math.ListN.{get_elem?}
 use Rattle.common.specs.Each.{Each}
-use Rattle.common.specs.Choice.{if_lt, if_eq}
-use Rattle.common.proofs.ChoiceLaws.{lt-then, lt-else, eq-then, eq-else}
+use Rattle.common.specs.Choice.{if_eq}
+use Rattle.common.proofs.ChoiceLaws.{lt-then, lt-else, eq-then}
 use Rattle.meaning.specs.Systems as meaning
 use Rattle.meaning.specs.Systems.{Move, System}
 use Rattle.playing.specs.Play.{number, lost}
 use Rattle.wording.specs.Words.{unsafe_word, steps_word, end_word}
 use Rattle.wording.specs.Numbers.{digit, number_text}
-use Rattle.wording.specs.Lines.{counted, unsafe_line, two_line}
+use Rattle.wording.specs.Lines.{counted, unsafe_line}
 use Rattle.wording.specs.Steps.{happened, happened_to, step_line, run_lines, unsafe_text}
 use Rattle.wording.proofs.NumberLaws.{number-one, number_more}
 use Rattle.steps.specs.Texts.{Read, read, nothing, behind, next, digit_of, digits_in, number_in, counted_in}
 use Rattle.steps.specs.Runs.{ending_in, step_in, first_in, run, not_at, steps_in, run_in}
+use Rattle.steps.proofs.TextLaws.{digits-stop, digits-on, number-zero, number-digits}
 
 -- ---- words
 
@@ -37,17 +33,15 @@ word_back v (x ∷ w) l = sym (eq-then x x (behind v w (w ++ l)) nothing refl (s
 abbrev pub NoDigit : List ℕ → Type 0
 NoDigit l = (n : ℕ) → digits_in n l ≡ read n l
 
-digit-back : (d : ℕ) → d < 10 → digit_of (digit d) ≡ d
+digit-back : (d : ℕ) → d < 10 → digit_of (digit d) ≡ Some d
 unfolding digit_of
-digit-back d h = sym (lt-else (48 + d) 48 10 (48 + d - 48) (omega arith) (omega arith))
+digit-back d h =
+    let e : 48 + d - 48 ≡ d = omega arith in
+    sym (lt-else _ _ _ _ (omega arith) (lt-else _ _ _ _ (omega arith) (ap Some (sym e))))
 
 -- One digit more.
 digit-on : (n d : ℕ) (l : List ℕ) → d < 10 → 10 * n + d < 32768 → digits_in n (digit d ∷ l) ≡ digits_in (10 * n + d) l
-unfolding digits_in
-digit-on n d l h k =
-    let e = digit-back d h in
-    sym (lt-else 9 (digit_of (digit d)) (read n (digit d ∷ l)) (if_lt 32767 (10 * n + digit_of (digit d)) nothing (digits_in (10 * n + digit_of (digit d)) l)) (omega arith)
-    (lt-else 32767 (10 * n + digit_of (digit d)) nothing (digits_in (10 * n + digit_of (digit d)) l) (omega arith) (ap (λ (x : ℕ). digits_in (10 * n + x) l) (sym e))))
+digit-on n d l h k = digits-on n (digit d) l d (digit-back d h) (omega arith)
 
 -- A number of one digit, or one that has digits before its last.
 below : (n : ℕ) → (n < 10) ⊎ (10 ≤ n)
@@ -55,15 +49,11 @@ below n = elim (dec_le 10 n) [ yes h ↦ inr h | no h ↦ inl (omega arith) ]
 
 -- A number that is not 0 is read back; k bounds its digits.
 digits-back : (k n : ℕ) → n ≤ k → 0 < n → n < 32768 → (l : List ℕ) → number_in (number_text n ++ l) ≡ digits_in n l
-unfolding number_in
 digits-back zero n h p b l = absurd (omega arith)
 digits-back (suc k) n h p b l = go (below n) (digits-back k (n / 10))
   where
     one : n < 10 → number_in (digit n ∷ l) ≡ digits_in n l
-    one s =
-        let e = digit-back n s in
-        sym (eq-else (digit_of (digit n)) 0 (read 0 l) (if_lt 9 (digit_of (digit n)) nothing (digits_in (digit_of (digit n)) l)) (λ z. omega arith)
-        (lt-else 9 (digit_of (digit n)) nothing (digits_in (digit_of (digit n)) l) (omega arith) (ap (λ (x : ℕ). digits_in x l) (sym e))))
+    one s = number-digits (digit n) l n (digit-back n s) (λ z. omega arith)
 
     go : (n < 10) ⊎ (10 ≤ n) → (n / 10 ≤ k → 0 < n / 10 → n / 10 < 32768 → (r : List ℕ) → number_in (number_text (n / 10) ++ r) ≡ digits_in (n / 10) r) → number_in (number_text n ++ l) ≡ digits_in n l
     go (inl s) same = ap (λ (x : List ℕ). number_in (x ++ l)) (number-one n s) ∙ one s
@@ -74,18 +64,12 @@ digits-back (suc k) n h p b l = go (below n) (digits-back k (n / 10))
         ∙ ap (λ (x : ℕ). digits_in x l) z
 
 no_digit : (c : ℕ) (l : List ℕ) → c < 48 → NoDigit (c ∷ l)
-unfolding digits_in digit_of
-no_digit c l h n =
-    let e : 10 ≡ digit_of c = lt-then c 48 10 (c - 48) h refl in
-    sym (lt-then 9 (digit_of c) (read n (c ∷ l)) (if_lt 32767 (10 * n + digit_of c) nothing (digits_in (10 * n + digit_of c) l)) (omega arith) refl)
+unfolding digit_of
+no_digit c l h n = digits-stop n c l (sym (lt-then c 48 None _ h refl))
 
 -- The digits of a number are read back, up to something else.
 number-back : (n : ℕ) → n < 32768 → (l : List ℕ) → NoDigit l → number_in (number_text n ++ l) ≡ read n l
-unfolding number_in
-number-back zero h l e = ap (λ (x : List ℕ). number_in (x ++ l)) (number-one 0 (omega arith)) ∙ nought
-  where
-    nought : number_in (digit 0 ∷ l) ≡ read 0 l
-    nought = sym (eq-then (digit_of (digit 0)) 0 (read 0 l) (if_lt 9 (digit_of (digit 0)) nothing (digits_in (digit_of (digit 0)) l)) (digit-back 0 (omega arith)) refl)
+number-back zero h l e = ap (λ (x : List ℕ). number_in (x ++ l)) (number-one 0 (omega arith)) ∙ number-zero (digit 0) l (digit-back 0 (omega arith))
 number-back (suc n) h l e = digits-back (suc n) (suc n) (omega arith) (omega arith) h l ∙ e (suc n)
 
 counted_back : (w : List ℕ) (n : ℕ) → n < 32768 → (l : List ℕ) → NoDigit l → counted_in w (counted w n ++ l) ≡ read n l
@@ -97,9 +81,9 @@ counted_back w n h l e =
 -- ---- the first line
 
 first_back : (rows steps : ℕ) → rows < 32768 → steps < 32768 → (l : List ℕ) → first_in (unsafe_line rows steps ++ l) ≡ read steps l
-unfolding first_in two_line counted
+unfolding first_in counted
 first_back rows steps h k l =
-    ap (λ (x : List ℕ). next (counted_in unsafe_word x) after) (append_assoc (counted unsafe_word rows ++ counted steps_word steps) end_word l ∙ append_assoc (counted unsafe_word rows) (counted steps_word steps) (end_word ++ l))
+    ap (λ (x : List ℕ). next (counted_in unsafe_word x) after) (append_assoc (counted unsafe_word rows) (counted steps_word steps ++ end_word) l ∙ ap (λ (y : List ℕ). counted unsafe_word rows ++ y) (append_assoc (counted steps_word steps) end_word l))
     ∙ ap (λ (x : Read). next x after) (counted_back unsafe_word rows h (counted steps_word steps ++ (end_word ++ l)) gap)
     ∙ ap (λ (x : Read). next x (λ n s. behind n end_word s)) (counted_back steps_word steps k (end_word ++ l) (no_digit 10 l (omega arith)))
     ∙ word_back steps end_word l

@@ -1,12 +1,7 @@
 -- A run that can be played can be told: its moves are there, and only sends are marked lost.
-use mathlib.Core.Path.{◌≡◌, refl}
-use mathlib.Core.Bool.{Bool, true, false}
-use mathlib.Core.Logic.{◌⊎◌, inl, inr}
-use mathlib.Core.List.{List, [], ◌∷◌}
-use mathlib.Core.Option.{Option, none, some, map}
-use Prim.Native.Nat.{ℕ, ◌+◌, ◌<◌}
-use native.Mathlib.Omega.{arith}
-use lib.ListN.{length, get_elem?}
+use Rattle.std.proofs.Common.{refl, inl, inr, arith, ◌≡◌, Bool, true, false, ◌⊎◌, List, [], ◌∷◌, ℕ, ◌+◌, ◌<◌, length}
+use Rattle.std.proofs.Math.Option.{Option, none, some, map}
+use Rattle.std.proofs.Math.ListN.{get_elem?}
 use Rattle.common.specs.Each.{Each}
 use Rattle.common.proofs.ChoiceLaws.{eq-cases}
 use Rattle.meaning.specs.Systems as meaning

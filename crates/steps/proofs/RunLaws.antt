@@ -1,151 +1,134 @@
 -- Lines of a run, read one after the other.
-use mathlib.Core.Path.{◌≡◌, refl, sym, ap, ◌∙◌}
-use mathlib.Core.List.{List, [], ◌∷◌, ◌++◌}
-use Prim.Native.Nat.{ℕ, suc, ◌+◌, ◌-◌, ◌<◌, ◌≤◌}
-use native.Mathlib.Omega.{arith}
-use lib.ListN.{length, set, drop, drop_of_length-le, length-set}
-use lib.Seq.{drop-cons}
+use Rattle.std.proofs.Common.{◌≡◌, refl, sym, ap, ◌∙◌, List, [], ◌∷◌, ◌++◌, ℕ, suc, ◌+◌, ◌-◌, ◌<◌, ◌≤◌, length, set, arith, length-set, length-append}
+use Rattle.std.specs.Prelude.{Option, Some, None, Result, Ok, Err}
+use Rattle.std.specs.Option.{ok_or}
 use Rattle.common.specs.Part.{part}
 use Rattle.common.proofs.PartLaws.{part_none, part-set}
 use Rattle.wording.specs.Words.{unsafe_word, steps_word, kept_word, lost_word, receive_word, quiet_word, end_word}
-use Rattle.steps.specs.Texts.{Read, read, nothing, behind, next, number_in, counted_in, read_as, Reads}
-use Rattle.steps.specs.Runs.{ending_in, step_in, first_in, not_at, steps_in, run_in, Tells}
+use Rattle.steps.specs.Texts.{Read, read, nothing, behind, either, number_in, read_as}
+use Rattle.steps.specs.Runs.{ending_in, step_in, first_in, run, not_at, steps_in, run_in, Tells}
 use Rattle.steps.specs.declared.texts.Found.{Found}
-use Rattle.steps.specs.declared.texts.Found.TheVariants.{Is, Nowhere}
-use Rattle.steps.specs.declared.runs.Run.{Run}
-use Rattle.steps.specs.declared.runs.Run.TheVariants.{Words, NotAt}
-use Rattle.steps.proofs.TextLaws.{next-nothing, next-then, either_first, either_second, inside-known}
+use Rattle.steps.specs.declared.runs.NoRun.{NoRun}
+use Rattle.steps.proofs.TextLaws.{Within, next-within, wider, either_assoc, either-within, word-within, number-within, counted-within, found-within}
 
 -- ---- what stands behind a step's number
 
-module _ (l : List ℕ) (at n : ℕ) (r : Found) (x : Reads l 65536 (at + 1) (behind n (kept_word ++ end_word) (drop at l)) r) where
-  pub ending-kept : (v p : ℕ) → r ≡ Is v p → Reads l 65536 (at + 1) (ending_in n (drop at l)) (Is v p)
-  unfolding ending_in
-  ending-kept v p e = either_first l _ _ _ r x _ v p e
+-- The first of four, in the order in which the code asks for them.
+pub endings : (n : ℕ) (l : List ℕ)
+    → either (either (either (behind n (kept_word ++ end_word) l) (behind (n + 32768) (lost_word ++ end_word) l)) (behind n (receive_word ++ end_word) l)) (behind n (quiet_word ++ end_word) l)
+    ≡ ending_in n l
+unfolding ending_in
+endings n l =
+    let kept = behind n (kept_word ++ end_word) l in
+    let lost = behind (n + 32768) (lost_word ++ end_word) l in
+    let received = behind n (receive_word ++ end_word) l in
+    let quiet = behind n (quiet_word ++ end_word) l in
+    either_assoc (either kept lost) received quiet ∙ either_assoc kept lost (either received quiet)
 
-  module _ (e : r ≡ Nowhere) (r₂ : Found) (x₂ : Reads l 65536 (at + 1) (behind (n + 32768) (lost_word ++ end_word) (drop at l)) r₂) where
-    pub ending-lost : (v p : ℕ) → r₂ ≡ Is v p → Reads l 65536 (at + 1) (ending_in n (drop at l)) (Is v p)
-    unfolding ending_in
-    ending-lost v p e₂ = either_second l _ _ _ r x _ _ e (either_first l _ _ _ r₂ x₂ _ v p e₂)
+-- ---- what is left behind a line
 
-    module _ (e₂ : r₂ ≡ Nowhere) (r₃ : Found) (x₃ : Reads l 65536 (at + 1) (behind n (receive_word ++ end_word) (drop at l)) r₃) where
-      pub ending-receive : (v p : ℕ) → r₃ ≡ Is v p → Reads l 65536 (at + 1) (ending_in n (drop at l)) (Is v p)
-      unfolding ending_in
-      ending-receive v p e₃ = either_second l _ _ _ r x _ _ e (either_second l _ _ _ r₂ x₂ _ _ e₂ (either_first l _ _ _ r₃ x₃ _ v p e₃))
+ending-within : (n : ℕ) (l : List ℕ) → n < 32768 → Within 65536 1 l (ending_in n l)
+unfolding ending_in
+ending-within n l h =
+    either-within 65536 1 l _ _ (word n kept_word (omega arith))
+    (either-within 65536 1 l _ _ (word (n + 32768) lost_word (omega arith)) (either-within 65536 1 l _ _ (word n receive_word (omega arith)) (word n quiet_word (omega arith))))
+  where
+    word : (v : ℕ) (w : List ℕ) → v < 65536 → Within 65536 1 l (behind v (w ++ end_word) l)
+    word v w k = wider 65536 (length (w ++ end_word)) 65536 1 l _ (omega arith) (omega (arith, length-append w end_word)) (word-within 65536 v (w ++ end_word) l k)
 
-      pub ending-quiet : r₃ ≡ Nowhere → (r₄ : Found) → Reads l 65536 (at + 1) (behind n (quiet_word ++ end_word) (drop at l)) r₄
-          → Reads l 65536 (at + 1) (ending_in n (drop at l)) r₄
-      unfolding ending_in
-      ending-quiet e₃ r₄ x₄ =
-          either_second l _ _ _ r x _ _ e (either_second l _ _ _ r₂ x₂ _ _ e₂ (either_second l _ _ _ r₃ x₃ _ _ e₃ x₄))
+pub step-within : (l : List ℕ) → Within 65536 1 l (step_in l)
+unfolding step_in
+step-within l = next-within 32768 0 65536 1 65536 1 l (number_in l) ending_in (omega arith) (omega arith) (number-within l) (λ v r h. ending-within v r h)
 
--- ---- a step's line, and the first line
-
-module _ (l : List ℕ) (at : ℕ) (r : Found) (x : Reads l 32768 at (number_in (drop at l)) r) where
-  pub step-nothing : r ≡ Nowhere → Reads l 65536 (at + 1) (step_in (drop at l)) Nowhere
-  unfolding step_in
-  step-nothing e = next-nothing l _ _ _ r x _ _ ending_in e
-
-  pub step_then : (v p : ℕ) (q : Found) → r ≡ Is v p → Reads l 65536 (p + 1) (ending_in v (drop p l)) q → Reads l 65536 (at + 1) (step_in (drop at l)) q
-  unfolding step_in
-  step_then v p q e y =
-      let i = inside-known l _ _ _ r x v p e in
-      next-then l _ _ _ r x _ _ (p + 1) ending_in v p q e (omega (arith, i.1)) y
-
-module _ (l : List ℕ) (r : Found) (x : Reads l 32768 0 (counted_in unsafe_word (drop 0 l)) r) where
-  pub first-nothing : r ≡ Nowhere → Reads l 65536 0 (first_in l) Nowhere
-  unfolding first_in
-  first-nothing e = next-nothing l _ _ _ r x _ _ (λ rows s. next (counted_in steps_word s) (λ steps s'. behind steps end_word s')) e
-
-  module _ (v p : ℕ) (e : r ≡ Is v p) (r₂ : Found) (x₂ : Reads l 32768 p (counted_in steps_word (drop p l)) r₂) where
-    pub first-halved : r₂ ≡ Nowhere → Reads l 65536 0 (first_in l) Nowhere
-    unfolding first_in
-    first-halved e₂ =
-        next-then l _ _ _ r x _ _ p (λ rows s. next (counted_in steps_word s) (λ steps s'. behind steps end_word s')) v p _ e (omega arith)
-        (next-nothing l _ _ _ r₂ x₂ _ _ (λ steps s'. behind steps end_word s') e₂)
-
-    pub first-whole : (w q : ℕ) (f : Found) → r₂ ≡ Is w q → Reads l 65536 (q + 1) (behind w end_word (drop q l)) f → Reads l 65536 0 (first_in l) f
-    unfolding first_in
-    first-whole w q f e₂ y =
-        next-then l _ _ _ r x _ _ p (λ rows s. next (counted_in steps_word s) (λ steps s'. behind steps end_word s')) v p _ e (omega arith)
-        (next-then l _ _ _ r₂ x₂ _ _ (q + 1) (λ steps s'. behind steps end_word s') w q f e₂ (let i = inside-known l _ _ _ r₂ x₂ w q e₂ in omega (arith, i.1)) y)
+pub first-within : (l : List ℕ) → Within 32768 0 l (first_in l)
+unfolding first_in
+first-within l =
+    next-within 32768 0 32768 0 32768 0 l _ _ (omega arith) (omega arith) (counted-within unsafe_word l)
+    (λ rows r h. next-within 32768 0 32768 0 32768 1 r _ _ (omega arith) (omega arith) (counted-within steps_word r) (λ steps s k. word-within 32768 steps end_word s k))
 
 -- ---- all steps
 
--- Of the steps i are read, up to place at of the text l.
-pub record Stepping (l : List ℕ) (from steps : ℕ) (words₀ words : List ℕ) (at i : ℕ) : Type 0 where
-  pub high : i ≤ steps
-  pub low : i ≤ at
-  pub inside : at ≤ length l
+-- So many steps are read, and the rest of the text is left.
+pub record Stepping (text : List ℕ) (steps : ℕ) (words₀ words rest : List ℕ) (i : ℕ) : Type 0 where
+  pub inside : i + length rest ≤ length text
   pub room : length words ≡ length words₀
-  pub same : steps_in (steps - i) (part 0 i words) (drop at l) (i + 2) ≡ steps_in steps [] (drop from l) 2
+  pub same : steps_in (steps - i) (part 0 i words) rest (i + 2) ≡ steps_in steps [] text 2
 
-module _ (l : List ℕ) (from steps : ℕ) (words₀ : List ℕ) where
-  pub stepping-starts : from ≤ length l → Stepping l from steps words₀ words₀ from 0
-  stepping-starts h = record {
-    high = omega arith;
-    low = omega arith;
-    inside = h;
+module _ (text : List ℕ) (steps : ℕ) (words₀ : List ℕ) where
+  pub stepping-starts : Stepping text steps words₀ words₀ text 0
+  stepping-starts = record {
+    inside = omega arith;
     room = refl;
-    same = let e : steps - 0 ≡ steps = omega arith in ap (λ (n : ℕ). steps_in n (part 0 0 words₀) (drop from l) 2) e ∙ ap (λ (ws : List ℕ). steps_in steps ws (drop from l) 2) (part_none 0 0 words₀ (omega arith));
+    same =
+        let e : steps - 0 ≡ steps = omega arith in
+        ap (λ (n : ℕ). steps_in n (part 0 0 words₀) text 2) e ∙ ap (λ (ws : List ℕ). steps_in steps ws text 2) (part_none 0 0 words₀ (omega arith));
   }
 
-  module _ (words : List ℕ) (at i : ℕ) (s : Stepping l from steps words₀ words at i) where
-    -- The next line decides.
-    line-next : (m : Read) → i < steps → m ≡ step_in (drop at l)
-        → elim m [ nothing ↦ not_at (i + 2) | read w r ↦ steps_in (steps - (i + 1)) (part 0 i words ++ (w ∷ [])) r (i + 2 + 1) ] ≡ steps_in steps [] (drop from l) 2
-    unfolding steps_in
-    line-next m h e =
-        let z : suc (steps - (i + 1)) ≡ steps - i = omega arith in
-        ap (λ (x : Read). elim x [ nothing ↦ not_at (i + 2) | read w r ↦ steps_in (steps - (i + 1)) (part 0 i words ++ (w ∷ [])) r (i + 2 + 1) ]) e
-        ∙ ap (λ (k : ℕ). steps_in k (part 0 i words) (drop at l) (i + 2)) z ∙ s.same
+  module _ (words rest : List ℕ) (i : ℕ) (s : Stepping text steps words₀ words rest i) where
+    module _ (r : Option Found) (x : read_as r ≡ step_in rest) (h : i < steps) where
+      -- The next line decides.
+      line-next : elim (read_as r) [ nothing ↦ not_at (i + 2) | read w l ↦ steps_in (steps - (i + 1)) (part 0 i words ++ (w ∷ [])) l (i + 2 + 1) ] ≡ steps_in steps [] text 2
+      unfolding steps_in
+      line-next =
+          let z : suc (steps - (i + 1)) ≡ steps - i = omega arith in
+          ap (λ (m : Read). elim m [ nothing ↦ not_at (i + 2) | read w l ↦ steps_in (steps - (i + 1)) (part 0 i words ++ (w ∷ [])) l (i + 2 + 1) ]) x
+          ∙ ap (λ (k : ℕ). steps_in k (part 0 i words) rest (i + 2)) z ∙ s.same
 
-    module _ (r : Found) (x : Reads l 65536 (at + 1) (step_in (drop at l)) r) (h : i < steps) where
-      pub stepping-fails : r ≡ Nowhere → Tells (steps_in steps [] (drop from l) 2) (NotAt (i + 2)) words
-      stepping-fails e = record { says = line-next nothing h (ap (read_as l) (sym e) ∙ x.says); fits = tt }
+      pub stepping-fails : r ≡ None → Tells (steps_in steps [] text 2) (Err (record { line = i + 2 })) words
+      stepping-fails e = record { says = rw e at line-next; fits = tt }
 
-      pub stepping-on : (v n : ℕ) → r ≡ Is v n → length l ≤ length words₀ → Stepping l from steps words₀ (set words i v) n (i + 1)
-      stepping-on v n e k =
-          let g = inside-known l _ _ _ r x v n e in
-          let a : n ≤ length l = g.2 in
-          let b : at + 1 ≤ n = g.1 in
+      pub stepping-on : (f : Found) → r ≡ Some f → length text ≤ length words₀ → Stepping text steps words₀ (set words i f.value) f.rest.now (i + 1)
+      stepping-on f e k =
+          let g = found-within r x 65536 1 rest f e (step-within rest) in
+          let a = g.1 in
+          let b : i + length rest ≤ length text = s.inside in
           let c : length words ≡ length words₀ = s.room in
-          let d : i ≤ at = s.low in
-          let f : i + 1 + 2 ≡ i + 2 + 1 = omega arith in
+          let d : i + 1 + 2 ≡ i + 2 + 1 = omega arith in
           record {
-            high = omega arith;
-            low = omega arith;
-            inside = a;
-            room = length-set words i v ∙ s.room;
-            same = ap (λ (ws : List ℕ). steps_in (steps - (i + 1)) ws (drop n l) (i + 1 + 2)) (part-set i words v (omega arith))
-                ∙ ap (steps_in (steps - (i + 1)) (part 0 i words ++ (v ∷ [])) (drop n l)) f ∙ line-next (read v (drop n l)) h (ap (read_as l) (sym e) ∙ x.says);
+            inside = omega arith;
+            room = length-set words i f.value ∙ c;
+            same = ap (λ (ws : List ℕ). steps_in (steps - (i + 1)) ws f.rest.now (i + 1 + 2)) (part-set i words f.value (omega arith))
+                ∙ ap (steps_in (steps - (i + 1)) (part 0 i words ++ (f.value ∷ [])) f.rest.now) d ∙ rw e at line-next;
           }
 
-    none_left : steps ≤ i → steps_in 0 (part 0 i words) (drop at l) (i + 2) ≡ steps_in steps [] (drop from l) 2
-    none_left h = let z : 0 ≡ steps - i = omega arith in ap (λ (k : ℕ). steps_in k (part 0 i words) (drop at l) (i + 2)) z ∙ s.same
+  module _ (words rest : List ℕ) (i : ℕ) (s : Stepping text steps words₀ words rest i) (e : i ≡ steps) where
+    none_left : steps_in 0 (part 0 steps words) rest (steps + 2) ≡ steps_in steps [] text 2
+    none_left =
+        let z : 0 ≡ steps - i = omega arith in
+        ap (λ (k : ℕ). steps_in 0 (part 0 k words) rest (k + 2)) (sym e) ∙ ap (λ (k : ℕ). steps_in k (part 0 i words) rest (i + 2)) z ∙ s.same
 
-    pub stepping-over : steps ≤ i → at < length l → Tells (steps_in steps [] (drop from l) 2) (NotAt (i + 2)) words
+    pub stepping-over : 0 < length rest → Tells (steps_in steps [] text 2) (Err (record { line = steps + 2 })) words
     unfolding steps_in
-    stepping-over h k = record { says = ap (λ (t : List ℕ). steps_in 0 (part 0 i words) t (i + 2)) (sym (drop-cons l at 0 k)) ∙ none_left h; fits = tt }
+    stepping-over h = record { says = over rest h ∙ none_left; fits = tt }
+      where
+        over : (l : List ℕ) → 0 < length l → not_at (steps + 2) ≡ steps_in 0 (part 0 steps words) l (steps + 2)
+        over [] k = absurd (omega arith)
+        over (x ∷ l) k = refl
 
-    pub stepping-ends : steps ≤ i → length l ≤ at → length l ≤ length words₀ → Tells (steps_in steps [] (drop from l) 2) (Words i) words
+    pub stepping-ends : length rest ≡ 0 → length text ≤ length words₀ → Tells (steps_in steps [] text 2) (Ok steps) words
     unfolding steps_in
-    stepping-ends h k m =
-        let c = s.room in
-        let d = s.low in
-        let e = s.inside in
-        record { says = ap (λ (t : List ℕ). steps_in 0 (part 0 i words) t (i + 2)) (sym (drop_of_length-le l k)) ∙ none_left h; fits = omega arith }
+    stepping-ends h m =
+        let a = s.room in
+        let b = s.inside in
+        record { says = ends rest h ∙ none_left; fits = omega arith }
+      where
+        ends : (l : List ℕ) → length l ≡ 0 → run (part 0 steps words) ≡ steps_in 0 (part 0 steps words) l (steps + 2)
+        ends [] k = refl
+        ends (x ∷ l) k = absurd (omega arith)
 
 -- ---- a whole text
 
-module _ (l : List ℕ) (r : Found) (x : Reads l 65536 0 (first_in l) r) where
-  pub run-nothing : (words : List ℕ) → r ≡ Nowhere → Tells (run_in l) (NotAt 1) words
+module _ (l : List ℕ) (r : Option Found) (x : read_as r ≡ first_in l) where
+  told : elim (read_as r) [ nothing ↦ not_at 1 | read steps s ↦ steps_in steps [] s 2 ] ≡ run_in l
   unfolding run_in
-  run-nothing words e = record { says = ap (λ (m : Read). elim m [ nothing ↦ not_at 1 | read steps s ↦ steps_in steps [] s 2 ]) (ap (read_as l) (sym e) ∙ x.says); fits = tt }
+  told = ap (λ (m : Read). elim m [ nothing ↦ not_at 1 | read steps s ↦ steps_in steps [] s 2 ]) x
 
-  pub run-then : (v n : ℕ) (q : Run) (words : List ℕ) → r ≡ Is v n → Tells (steps_in v [] (drop n l) 2) q words → Tells (run_in l) q words
-  unfolding run_in
-  run-then v n q words e y = record {
-    says = y.says ∙ ap (λ (m : Read). elim m [ nothing ↦ not_at 1 | read steps s ↦ steps_in steps [] s 2 ]) (ap (read_as l) (sym e) ∙ x.says);
-    fits = y.fits;
-  }
+  pub run-nothing : (words : List ℕ) → r ≡ None → Tells (run_in l) (Err (record { line = 1 })) words
+  run-nothing words e = record { says = rw e at told; fits = tt }
+
+  -- The refusal that is made of nothing.
+  pub no-run : r ≡ None → (e y : NoRun) → ◌≡◌ {A = Result Found NoRun} (Err y) (ok_or r e) → y ≡ e
+  no-run z e y h = let k : ◌≡◌ {A = Result Found NoRun} (Err y) (Err e) = h ∙ ap (λ (o : Option Found). ok_or o e) z in cc
+
+  pub run-then : (f : Found) (q : Result ℕ NoRun) (words : List ℕ) → r ≡ Some f → Tells (steps_in f.value [] f.rest.now 2) q words → Tells (run_in l) q words
+  run-then f q words e y = record { says = y.says ∙ rw e at told; fits = y.fits }

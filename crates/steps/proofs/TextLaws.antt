@@ -1,173 +1,206 @@
--- Words and numbers, read byte by byte.
-use mathlib.Core.Path.{◌≡◌, refl, sym, ap, subst, ◌∙◌}
-use mathlib.Core.Bool.{Bool, true, false, cond}
-use mathlib.Core.List.{List, [], ◌∷◌}
-use Prim.Native.Nat.{ℕ, ◌+◌, ◌*◌, ◌<◌, ◌≤◌}
-use native.Mathlib.Numerals.{add-one}
-use native.Mathlib.Omega.{arith}
-use lib.Dec.{eqb}
-use lib.ListN.{length, get_or, drop, drop_of_length-le, length-drop}
-use lib.Seq.{drop-cons}
+-- Words and numbers at the front of a text: what is read where the code's tests say so, and how much of the text it leaves.
+use Rattle.std.proofs.Common.{◌≡◌, refl, sym, ap, ◌∙◌, subst, Bool, true, false, ◌&&◌, cond, ◌⊎◌, inl, inr, List, [], ◌∷◌, ℕ, ◌+◌, ◌*◌, ◌-◌, ◌<◌, ◌≤◌, length, take, drop, get_or, eqb, arith}
+use Rattle.std.specs.Prelude.{Option, Some, None, MatchOption}
+use Rattle.std.specs.Cmp.Lexicographic.{pointwise}
+use Rattle.std.proofs.lemmas.List.{drop_more, take_rest, drop_all}
+use Rattle.std.proofs.lemmas.Option.{none-some, same_Some}
 use Rattle.common.specs.Choice.{if_lt, if_eq}
-use Rattle.common.proofs.ChoiceLaws.{lt-then, lt-else, eq-then, eq-else}
-use Rattle.steps.specs.Texts.{Read, read, nothing, behind, next, either, digit_of, digits_in, number_in, counted_in, read_as, Inside, Reads}
+use Rattle.common.proofs.ChoiceLaws.{lt-then, lt-else, lt-cases, eq-then, eq-else, eq-cases}
+use Rattle.steps.specs.Texts.{Read, read, nothing, behind, next, either, digit_of, digits_in, number_in, counted_in, read_as}
 use Rattle.steps.specs.declared.texts.Found.{Found}
-use Rattle.steps.specs.declared.texts.Found.TheVariants.{Is, Nowhere}
-
--- The first byte of what is left, and the rest.
-left : (l : List ℕ) (i : ℕ) → i < length l → drop i l ≡ get_or l i 0 ∷ drop (i + 1) l
-left l i h = drop-cons l i 0 h ∙ ap (λ (n : ℕ). get_or l i 0 ∷ drop n l) (sym (add-one i))
 
 -- ---- a word
 
-same-both : {A : Type 0} (a b : ℕ) (x : A) → x ≡ if_eq a b x x
-unfolding if_eq
-same-both {A} a b x = go (eqb a b)
+-- The text begins with it, or it doesn't.
+pub word-there : (v : ℕ) (w l : List ℕ) → pointwise eqb (take (length w) l) w ≡ true → behind v w l ≡ read v (drop (length w) l)
+unfolding behind if_eq
+word-there v [] l e = refl
+word-there v (x ∷ w) [] e = cc
+word-there v (x ∷ w) (y ∷ l) e = go (eqb y x) e (word-there v w l)
   where
-    go : (t : Bool) → x ≡ cond t x x
-    go true = refl
-    go false = refl
+    go : (b : Bool) → (b && pointwise eqb (take (length w) l) w) ≡ true → (pointwise eqb (take (length w) l) w ≡ true → behind v w l ≡ read v (drop (length w) l))
+        → cond b (behind v w l) nothing ≡ read v (drop (length w) l)
+    go true e h = h e
+    go false e h = cc
 
--- A text that is shorter than a word does not begin with it.
-short : (v : ℕ) (w l : List ℕ) → length l < length w → behind v w l ≡ nothing
-unfolding behind
-short v [] l h = absurd (omega arith)
-short v (x ∷ w) [] h = refl
-short v (x ∷ w) (y ∷ l) h = ap (λ (m : Read). if_eq y x m nothing) (short v w l (omega arith)) ∙ sym (same-both y x nothing)
+pub word-other : (v : ℕ) (w l : List ℕ) → pointwise eqb (take (length w) l) w ≡ false → behind v w l ≡ nothing
+unfolding behind if_eq
+word-other v [] l e = cc
+word-other v (x ∷ w) [] e = refl
+word-other v (x ∷ w) (y ∷ l) e = go (eqb y x) e (word-other v w l)
+  where
+    go : (b : Bool) → (b && pointwise eqb (take (length w) l) w) ≡ false → (pointwise eqb (take (length w) l) w ≡ false → behind v w l ≡ nothing)
+        → cond b (behind v w l) nothing ≡ nothing
+    go true e h = h e
+    go false e h = refl
 
--- The first k bytes of a word are there.
-pub record Matching (l w : List ℕ) (at v k : ℕ) : Type 0 where
-  pub high : k ≤ length w
-  pub same : behind v (drop k w) (drop (at + k) l) ≡ behind v w (drop at l)
+-- ---- digits and numbers, by the digit at the front
 
-module _ (l w : List ℕ) (at v : ℕ) where
-  pub word-short : at ≤ length l → length l < at + length w → Reads l 65536 (at + 1) (behind v w (drop at l)) Nowhere
-  word-short i h = record { says = sym (short v w (drop at l) (let e = length-drop at l in omega arith)); inside = tt }
+pub digit-small : (c d : ℕ) → digit_of c ≡ Some d → d < 10
+unfolding digit_of
+digit-small c d e = go (lt-cases _ _ _ _ e)
+  where
+    here : ((57 < c) × (None ≡ Some d)) ⊎ ((c ≤ 57) × (Some (c - 48) ≡ Some d)) → d < 10
+    here (inl r) = absurd (none-some d r.1)
+    here (inr r) = let e : c - 48 ≡ d = same_Some _ _ r.1 in omega arith
 
-  pub matching-starts : Matching l w at v 0
-  matching-starts = record { high = omega arith; same = let e : at + 0 ≡ at = omega arith in ap (λ (n : ℕ). behind v w (drop n l)) e }
+    go : ((c < 48) × (None ≡ Some d)) ⊎ ((48 ≤ c) × (if_lt 57 c None (Some (c - 48)) ≡ Some d)) → d < 10
+    go (inl r) = absurd (none-some d r.1)
+    go (inr r) = here (lt-cases _ _ _ _ r.1)
 
-  module _ (k : ℕ) (m : Matching l w at v k) where
-    one : k < length w → at + length w ≤ length l
-        → if_eq (get_or l (at + k) 0) (get_or w k 0) (behind v (drop (k + 1) w) (drop (at + (k + 1)) l)) nothing ≡ behind v w (drop at l)
-    unfolding behind
-    one h i =
-        let e : at + k + 1 ≡ at + (k + 1) = omega arith in
-        ap (λ (n : ℕ). if_eq (get_or l (at + k) 0) (get_or w k 0) (behind v (drop (k + 1) w) (drop n l)) nothing) (sym e)
-        ∙ ap (behind v (get_or w k 0 ∷ drop (k + 1) w)) (sym (left l (at + k) (omega arith)))
-        ∙ ap (λ (x : List ℕ). behind v x (drop (at + k) l)) (sym (left w k h)) ∙ m.same
+module _ (n c : ℕ) (l : List ℕ) where
+  pub digits-stop : digit_of c ≡ None → digits_in n (c ∷ l) ≡ read n (c ∷ l)
+  unfolding digits_in
+  digits-stop e = rw (e, digits_in) refl
 
-    pub matching-on : k < length w → at + length w ≤ length l → get_or l (at + k) 0 ≡ get_or w k 0 → Matching l w at v (k + 1)
-    matching-on h i e = record { high = omega arith; same = eq-then _ _ _ _ e refl ∙ one h i }
-
-    pub matching-differs : k < length w → at + length w ≤ length l → (get_or l (at + k) 0 ≡ get_or w k 0 → ⊥) → Reads l 65536 (at + 1) (behind v w (drop at l)) Nowhere
-    matching-differs h i n = record { says = eq-else _ _ _ _ n refl ∙ one h i; inside = tt }
-
-    pub matching-ends : length w ≤ k → 0 < length w → at + length w ≤ length l → v < 65536 → Reads l 65536 (at + 1) (behind v w (drop at l)) (Is v (at + k))
-    unfolding behind
-    matching-ends h p i b =
-        let g = m.high in
-        record {
-          says = ap (λ (x : List ℕ). behind v x (drop (at + k) l)) (sym (drop_of_length-le w h)) ∙ m.same;
-          inside = (b, omega arith, omega arith);
-        }
-
--- ---- a number
-
--- The number that is read up to place i.
-pub record Counting (l : List ℕ) (at first v i : ℕ) : Type 0 where
-  pub small : v < 32768
-  pub low : at ≤ i
-  pub high : i ≤ length l
-  pub same : digits_in v (drop i l) ≡ digits_in first (drop at l)
-
-module _ (l : List ℕ) (at first : ℕ) where
-  pub counting-starts : at ≤ length l → first < 32768 → Counting l at first first at
-  counting-starts h k = record { small = k; low = omega arith; high = h; same = refl }
-
-  module _ (v i : ℕ) (c : Counting l at first v i) where
-    pub counting-ends : length l ≤ i → Reads l 32768 at (digits_in first (drop at l)) (Is v i)
+  module _ (d : ℕ) (e : digit_of c ≡ Some d) where
+    pub digits-over : 32767 < 10 * n + d → digits_in n (c ∷ l) ≡ nothing
     unfolding digits_in
-    counting-ends h = record {
-      says = ap (read v) (drop_of_length-le l h) ∙ ap (digits_in v) (sym (drop_of_length-le l h)) ∙ c.same;
-      inside = (c.small, c.low, c.high);
-    }
+    digits-over h = rw (e, digits_in) (sym (lt-then _ _ _ _ h refl))
 
-    module _ (d : ℕ) (h : i < length l) (e : d ≡ digit_of (get_or l i 0)) where
-      digit-next : if_lt 9 d (read v (drop i l)) (if_lt 32767 (10 * v + d) nothing (digits_in (10 * v + d) (drop (i + 1) l))) ≡ digits_in first (drop at l)
-      unfolding digits_in
-      digit-next =
-          ap (λ (n : ℕ). if_lt 9 n (read v (drop i l)) (if_lt 32767 (10 * v + n) nothing (digits_in (10 * v + n) (drop (i + 1) l)))) e
-          ∙ ap (λ (x : List ℕ). if_lt 9 (digit_of (get_or l i 0)) (read v x) (if_lt 32767 (10 * v + digit_of (get_or l i 0)) nothing (digits_in (10 * v + digit_of (get_or l i 0)) (drop (i + 1) l)))) (left l i h)
-          ∙ ap (digits_in v) (sym (left l i h)) ∙ c.same
+    pub digits-on : 10 * n + d ≤ 32767 → digits_in n (c ∷ l) ≡ digits_in (10 * n + d) l
+    unfolding digits_in
+    digits-on h = rw (e, digits_in) (sym (lt-else _ _ _ _ h refl))
 
-      pub counting-stops : 9 < d → Reads l 32768 at (digits_in first (drop at l)) (Is v i)
-      counting-stops k = record { says = lt-then _ _ _ _ k refl ∙ digit-next; inside = (c.small, c.low, c.high) }
+pub number-empty : (l : List ℕ) → length l ≡ 0 → number_in l ≡ nothing
+unfolding number_in
+number-empty [] e = refl
+number-empty (c ∷ l) e = absurd (omega arith)
 
-      pub counting-over : d ≤ 9 → 32767 < 10 * v + d → Reads l 32768 at (digits_in first (drop at l)) Nowhere
-      counting-over k o = record { says = lt-else _ _ _ _ k (lt-then _ _ _ _ o refl) ∙ digit-next; inside = tt }
-
-      pub counting-on : d ≤ 9 → 10 * v + d ≤ 32767 → Counting l at first (10 * v + d) (i + 1)
-      counting-on k o = record { small = omega arith; low = omega (arith, c.low); high = omega arith; same = lt-else _ _ _ _ k (lt-else _ _ _ _ o refl) ∙ digit-next }
-
--- What is inside narrower limits is inside wider ones.
-wider : (b f b' f' end : ℕ) (r : Found) → b ≤ b' → f' ≤ f → Inside b f end r → Inside b' f' end r
-wider b f b' f' end (Is v n) h k i = (omega (arith, i.0), omega (arith, i.1), i.2)
-wider b f b' f' end Nowhere h k i = tt
-
-module _ (l : List ℕ) (at : ℕ) where
-  pub number-none : length l ≤ at → Reads l 32768 at (number_in (drop at l)) Nowhere
+module _ (c : ℕ) (l : List ℕ) where
+  pub number-none : digit_of c ≡ None → number_in (c ∷ l) ≡ nothing
   unfolding number_in
-  number-none h = record { says = ap number_in (sym (drop_of_length-le l h)); inside = tt }
+  number-none e = rw (e, number_in) refl
 
-  module _ (d : ℕ) (h : at < length l) (e : d ≡ digit_of (get_or l at 0)) where
-    number-first : if_eq d 0 (read 0 (drop (at + 1) l)) (if_lt 9 d nothing (digits_in d (drop (at + 1) l))) ≡ number_in (drop at l)
-    unfolding number_in
-    number-first =
-        ap (λ (n : ℕ). if_eq n 0 (read 0 (drop (at + 1) l)) (if_lt 9 n nothing (digits_in n (drop (at + 1) l)))) e ∙ ap number_in (sym (left l at h))
+  pub number-zero : digit_of c ≡ Some 0 → number_in (c ∷ l) ≡ read 0 l
+  unfolding number_in
+  number-zero e = rw (e, number_in) (sym (eq-then _ _ _ _ refl refl))
 
-    pub number-zero : d ≡ 0 → Reads l 32768 at (number_in (drop at l)) (Is 0 (at + 1))
-    number-zero k = record { says = eq-then _ _ _ _ k refl ∙ number-first; inside = (omega arith, omega arith, omega arith) }
+  pub number-digits : (d : ℕ) → digit_of c ≡ Some d → (d ≡ 0 → ⊥) → number_in (c ∷ l) ≡ digits_in d l
+  unfolding number_in
+  number-digits d e h = rw (e, number_in) (sym (eq-else _ _ _ _ h refl))
 
-    pub number-other : (d ≡ 0 → ⊥) → 9 < d → Reads l 32768 at (number_in (drop at l)) Nowhere
-    number-other n k = record { says = eq-else _ _ _ _ n (lt-then _ _ _ _ k refl) ∙ number-first; inside = tt }
+-- ---- what is left
 
-    pub number_more : (d ≡ 0 → ⊥) → d ≤ 9 → (r : Found) → Reads l 32768 (at + 1) (digits_in d (drop (at + 1) l)) r → Reads l 32768 at (number_in (drop at l)) r
-    number_more n k r w = record {
-      says = w.says ∙ eq-else _ _ _ _ n (lt-else _ _ _ _ k refl) ∙ number-first;
-      inside = wider _ _ _ _ _ r (omega arith) (omega arith) w.inside;
-    }
+-- The number that is read is below a bound, and at least so many bytes of the text are behind.
+abbrev pub Within : ℕ → ℕ → List ℕ → Read → Type 0
+Within bound used l (read v r) = (v < bound) × (used + length r ≤ length l)
+Within bound used l nothing = Unit {0}
 
--- ---- one behind the other, and one or the other
+pub next-within : (b u b' u' b'' u'' : ℕ) (l : List ℕ) (m : Read) (f : ℕ → List ℕ → Read) → b'' ≤ b' → u' ≤ u + u'' → Within b u l m
+    → ((v : ℕ) (r : List ℕ) → v < b → Within b'' u'' r (f v r)) → Within b' u' l (next m f)
+next-within b u b' u' b'' u'' l nothing f h k w g = tt
+next-within b u b' u' b'' u'' l (read v r) f h k w g = go (f v r) (g v r w.0)
+  where
+    go : (m : Read) → Within b'' u'' r m → Within b' u' l m
+    go nothing x = tt
+    go (read v' r') x = (omega (arith, x.0), omega (arith, x.1, w.1))
 
-module _ (l : List ℕ) (b a : ℕ) (m : Read) (r : Found) (w : Reads l b a m r) where
-  pub next-nothing : (b' a' : ℕ) (f : ℕ → List ℕ → Read) → r ≡ Nowhere → Reads l b' a' (next m f) Nowhere
-  next-nothing b' a' f e = record { says = ap (λ (x : Read). next x f) (ap (read_as l) (sym e) ∙ w.says); inside = tt }
+-- What is within narrower limits is within wider ones.
+pub wider : (b u b' u' : ℕ) (l : List ℕ) (m : Read) → b ≤ b' → u' ≤ u → Within b u l m → Within b' u' l m
+wider b u b' u' l nothing h k w = tt
+wider b u b' u' l (read v r) h k w = (omega (arith, w.0), omega (arith, w.1))
 
-  pub next-then : (b' a' c : ℕ) (f : ℕ → List ℕ → Read) (v n : ℕ) (q : Found) → r ≡ Is v n → a' ≤ c → Reads l b' c (f v (drop n l)) q → Reads l b' a' (next m f) q
-  next-then b' a' c f v n q e h x = record {
-    says = x.says ∙ ap (λ (y : Read). next y f) (ap (read_as l) (sym e) ∙ w.says);
-    inside = wider _ _ _ _ _ q (omega arith) h x.inside;
-  }
+pub either-within : (b u : ℕ) (l : List ℕ) (m m' : Read) → Within b u l m → Within b u l m' → Within b u l (either m m')
+either-within b u l nothing m' w w' = w'
+either-within b u l (read v r) m' w w' = w
 
-  pub either_first : (m' : Read) (v n : ℕ) → r ≡ Is v n → Reads l b a (either m m') (Is v n)
-  either_first m' v n e = record { says = ap (λ (y : Read). either y m') (ap (read_as l) (sym e) ∙ w.says); inside = subst (Inside b a (length l)) e w.inside }
+-- A choice is within what both of its parts are.
+if_lt-within : (b u : ℕ) (l : List ℕ) (x y : ℕ) (m m' : Read) → (x < y → Within b u l m) → (y ≤ x → Within b u l m') → Within b u l (if_lt x y m m')
+if_lt-within b u l x y m m' w w' = elim (lt-cases x y m m' refl) [ inl r ↦ subst (Within b u l) r.1 (w r.0) | inr r ↦ subst (Within b u l) r.1 (w' r.0) ]
 
-  pub either_second : (m' : Read) (q : Found) → r ≡ Nowhere → Reads l b a m' q → Reads l b a (either m m') q
-  either_second m' q e x = record { says = x.says ∙ ap (λ (y : Read). either y m') (ap (read_as l) (sym e) ∙ w.says); inside = x.inside }
+if_eq-within : (b u : ℕ) (l : List ℕ) (x y : ℕ) (m m' : Read) → Within b u l m → Within b u l m' → Within b u l (if_eq x y m m')
+if_eq-within b u l x y m m' w w' = elim (eq-cases x y m m' refl) [ inl r ↦ subst (Within b u l) r.1 w | inr r ↦ subst (Within b u l) r.1 w' ]
 
-  -- Where something is read, it is inside.
-  pub inside-known : (v n : ℕ) → r ≡ Is v n → (v < b) × (a ≤ n) × (n ≤ length l)
-  inside-known v n e = subst (Inside b a (length l)) e w.inside
+pub word-within : (b v : ℕ) (w l : List ℕ) → v < b → Within b (length w) l (behind v w l)
+unfolding behind if_eq
+word-within b v [] l h = (h, omega arith)
+word-within b v (x ∷ w) [] h = tt
+word-within b v (x ∷ w) (y ∷ l) h = go (eqb y x) (behind v w l) (word-within b v w l h)
+  where
+    go : (t : Bool) (m : Read) → Within b (length w) l m → Within b (length (x ∷ w)) (y ∷ l) (cond t m nothing)
+    go false m i = tt
+    go true nothing i = tt
+    go true (read n r) i = (i.0, omega (arith, i.1))
 
--- A number behind a word.
-module _ (l w : List ℕ) (at : ℕ) (r : Found) (x : Reads l 65536 (at + 1) (behind 0 w (drop at l)) r) where
-  pub counted-nothing : r ≡ Nowhere → Reads l 32768 at (counted_in w (drop at l)) Nowhere
-  unfolding counted_in
-  counted-nothing e = next-nothing l _ _ _ r x _ _ _ e
+longer : (b c : ℕ) (l : List ℕ) (m : Read) → Within b 0 l m → Within b 0 (c ∷ l) m
+longer b c l nothing i = tt
+longer b c l (read v r) i = (i.0, omega (arith, i.1))
 
-  pub counted-then : (v n : ℕ) (q : Found) → r ≡ Is v n → Reads l 32768 n (number_in (drop n l)) q → Reads l 32768 at (counted_in w (drop at l)) q
-  unfolding counted_in
-  counted-then v n q e y =
-      let i = inside-known l _ _ _ r x v n e in
-      next-then l _ _ _ r x _ _ n (λ z s. number_in s) v n q e (omega (arith, i.1)) y
+pub digits-within : (n : ℕ) (l : List ℕ) → n < 32768 → Within 32768 0 l (digits_in n l)
+unfolding digits_in
+digits-within n [] h = (h, omega arith)
+digits-within n (c ∷ l) h = go (digit_of c) (λ d. digits-within (10 * n + d) l)
+  where
+    go : (o : Option ℕ) → ((d : ℕ) → 10 * n + d < 32768 → Within 32768 0 l (digits_in (10 * n + d) l))
+        → Within 32768 0 (c ∷ l) (elim o [ None ↦ read n (c ∷ l) | Some d ↦ if_lt 32767 (10 * n + d) nothing (digits_in (10 * n + d) l) ])
+    go None g = (h, omega arith)
+    go (Some d) g = if_lt-within 32768 0 (c ∷ l) 32767 (10 * n + d) nothing (digits_in (10 * n + d) l) (λ k. tt) (λ k. longer 32768 c l (digits_in (10 * n + d) l) (g d (omega arith)))
+
+pub number-within : (l : List ℕ) → Within 32768 0 l (number_in l)
+unfolding number_in
+number-within [] = tt
+number-within (c ∷ l) = go (digit_of c) refl
+  where
+    go : (o : Option ℕ) → digit_of c ≡ o → Within 32768 0 (c ∷ l) (elim o [ None ↦ nothing | Some d ↦ if_eq d 0 (read 0 l) (digits_in d l) ])
+    go None e = tt
+    go (Some d) e =
+        let k = digit-small c d e in
+        if_eq-within 32768 0 (c ∷ l) d 0 (read 0 l) (digits_in d l) (omega arith, omega arith) (longer 32768 c l (digits_in d l) (digits-within d l (omega arith)))
+
+pub counted-within : (w l : List ℕ) → Within 32768 0 l (counted_in w l)
+unfolding counted_in
+counted-within w l =
+    next-within 32768 (length w) 32768 0 32768 0 l (behind 0 w l) (λ v r. number_in r) (omega arith) (omega arith) (word-within 32768 0 w l (omega arith)) (λ v r k. number-within r)
+
+-- ---- what a call found
+
+module _ (r : Option Found) {m : Read} (e : read_as r ≡ m) where
+  -- Nothing, or a number with something behind it.
+  pub next-nothing : (f : ℕ → List ℕ → Read) → r ≡ None → nothing ≡ next m f
+  next-nothing f z = ap (λ (x : Option Found). next (read_as x) f) (sym z) ∙ ap (λ (x : Read). next x f) e
+
+  pub next-found : (f : ℕ → List ℕ → Read) (x : Found) → r ≡ Some x → f x.value x.rest.now ≡ next m f
+  next-found f x z = ap (λ (x : Option Found). next (read_as x) f) (sym z) ∙ ap (λ (x : Read). next x f) e
+
+  -- The same of the first of two.
+  pub either-nothing : (m' : Read) → r ≡ None → m' ≡ either m m'
+  either-nothing m' z = ap (λ (x : Option Found). either (read_as x) m') (sym z) ∙ ap (λ (x : Read). either x m') e
+
+  pub either-found : (m' : Read) (x : Found) → r ≡ Some x → read_as (Some x) ≡ either m m'
+  either-found m' x z = ap (λ (x : Option Found). either (read_as x) m') (sym z) ∙ ap (λ (x : Read). either x m') e
+
+  pub found-within : (b u : ℕ) (l : List ℕ) (x : Found) → r ≡ Some x → Within b u l m → (x.value < b) × (u + length x.rest.now ≤ length l)
+  found-within b u l x z w = subst (Within b u l) (sym e ∙ ap read_as z) w
+
+pub either_assoc : (m m' m'' : Read) → either (either m m') m'' ≡ either m (either m' m'')
+either_assoc nothing m' m'' = refl
+either_assoc (read v r) m' m'' = refl
+
+-- What is read where the first finds nothing.
+pub or-else : (r q : Option Found) {m : Read} (m' : Read) {P : Type 0} → read_as r ≡ m → MatchOption r P (λ x. q ≡ Some x) → (P → read_as q ≡ m') → read_as q ≡ either m m'
+or-else None q m' e h f = f h ∙ ap (λ (x : Read). either x m') e
+or-else (Some x) q m' e h f = ap read_as h ∙ ap (λ (y : Read). either y m') e
+
+-- ---- the digits, one by one
+
+-- The digits from place i on are still to be read, behind the number n.
+module _ (text : List ℕ) (n i : ℕ) {m : Read} (e : digits_in n (drop i text) ≡ m) (h : i < length text) where
+  here : digits_in n (get_or text i 0 ∷ drop (i + 1) text) ≡ m
+  here = ap (digits_in n) (sym (drop_more text i 0 h)) ∙ e
+
+  pub digit-stops : digit_of (get_or text i 0) ≡ None → read n (take (length text - i) (drop i text)) ≡ m
+  digit-stops z =
+      ap (read n) (take_rest text i ∙ drop_more text i 0 h) ∙ sym (digits-stop n (get_or text i 0) (drop (i + 1) text) z) ∙ here
+
+  pub digit-over : (d : ℕ) → digit_of (get_or text i 0) ≡ Some d → 32767 < 10 * n + d → nothing ≡ m
+  digit-over d z k = sym (digits-over n (get_or text i 0) (drop (i + 1) text) d z k) ∙ here
+
+  pub digit-goes_on : (d : ℕ) → digit_of (get_or text i 0) ≡ Some d → 10 * n + d ≤ 32767 → digits_in (10 * n + d) (drop (i + 1) text) ≡ m
+  digit-goes_on d z k = sym (digits-on n (get_or text i 0) (drop (i + 1) text) d z k) ∙ here
+
+pub digits_end : (text : List ℕ) (n i : ℕ) {m : Read} → digits_in n (drop i text) ≡ m → i ≡ length text → read n (take (length text - length text) (drop (length text) text)) ≡ m
+unfolding digits_in
+digits_end text n i e h =
+    let z : drop (length text) text ≡ [] = drop_all (length text) text (omega arith) in
+    ap (read n) (take_rest text (length text) ∙ z) ∙ ap (digits_in n) (sym z ∙ ap (λ (k : ℕ). drop k text) (sym h)) ∙ e

@@ -1,10 +1,9 @@
 -- The lines of a run, read back as its words.
-use Rattle.std.specs.Prelude.{◌≡◌, List, [], ◌∷◌, ◌++◌, ℕ, zero, suc, ◌+◌, ◌≤◌, length}
+use Rattle.std.specs.Prelude.{◌≡◌, List, [], ◌∷◌, ◌++◌, ℕ, zero, suc, ◌+◌, ◌≤◌, length, Result, Ok, Err}
 use Rattle.common.specs.Part.{part}
 use Rattle.wording.specs.Words.{unsafe_word, steps_word, kept_word, lost_word, receive_word, quiet_word, end_word}
 use Rattle.steps.specs.Texts.{Read, read, nothing, behind, next, either, number_in, counted_in}
-use Rattle.steps.specs.declared.runs.Run.{Run}
-use Rattle.steps.specs.declared.runs.Run.TheVariants.{Words, NotAt}
+use Rattle.steps.specs.declared.runs.NoRun.{NoRun}
 
 -- What stands behind a step's number, as the run word: the number, plus 32,768 where the message was lost.
 unfoldable pub ending_in : ℕ → List ℕ → Read
@@ -37,14 +36,14 @@ run_in l = elim (first_in l) [ nothing ↦ not_at 1 | read steps r ↦ steps_in 
 -- ---- what the call says
 
 -- The first words of the buffer, or the line.
-abbrev pub told_by : Run → List ℕ → Told
-told_by (Words n) words = run (part 0 n words)
-told_by (NotAt line) words = not_at line
+abbrev pub told_by : Result ℕ NoRun → List ℕ → Told
+told_by (Ok n) words = run (part 0 n words)
+told_by (Err e) words = not_at e.line
 
-abbrev pub Fits : Run → List ℕ → Type 0
-Fits (Words n) words = n ≤ length words
-Fits (NotAt line) words = Unit {0}
+abbrev pub Fits : Result ℕ NoRun → List ℕ → Type 0
+Fits (Ok n) words = n ≤ length words
+Fits (Err e) words = Unit {0}
 
-pub record Tells (m : Told) (r : Run) (words : List ℕ) : Type 0 where
+pub record Tells (m : Told) (r : Result ℕ NoRun) (words : List ℕ) : Type 0 where
   pub says : told_by r words ≡ m
   pub fits : Fits r words

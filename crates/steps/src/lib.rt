@@ -4,4 +4,4 @@
 pub mod runs;
 pub mod texts;
 
-pub use crate::runs::{Run, read_run};
+pub use crate::runs::{NoRun, read_run};

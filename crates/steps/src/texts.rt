@@ -1,100 +1,71 @@
-// Words and numbers read from a place of a text on. All functions here are inner.
-ghost use Rattle.std.specs.Prelude.{◌≡◌, ◌+◌, ◌<◌, ◌≤◌, length, drop};
-ghost use Rattle.steps.specs.Texts.{behind, digits_in, number_in, counted_in, Reads};
+// Words and numbers read at the front of a text. All functions here are inner.
+ghost use Rattle.std.specs.Prelude.{◌≡◌, ◌<◌};
+ghost use Rattle.steps.specs.Texts.{behind, digits_in, number_in, counted_in, read_as};
 ghost use Rattle.steps.specs.Texts.{digit_of as digit_in};
 
-// A number that was read, and the place behind it; or something else stands there.
+// A number that was read, and the rest of the text behind it.
 #[derive(Clone, Copy)]
-pub enum Found {
-    Is { value: usize, next: usize },
-    Nowhere,
+pub struct Found<'a> {
+    pub value: usize,
+    pub rest: &'a [u8],
 }
 
-// Answers the value where the word stands at a place, with the place behind the word. Inner.
-pub fn word_at(text: &[u8], at: usize, word: &[u8], value: usize) -> Found
-    requires { (at ≤ length text.now) × (0 < length word.now) × (value < 65536) }
-    ensures { Reads text.now 65536 (at + 1) (behind value word.now (drop at text.now)) result }
+// Answers the value where the text begins with the word. Inner.
+pub fn read_word<'a>(text: &'a [u8], word: &[u8], value: usize) -> Option<Found<'a>>
+    ensures { read_as result ≡ behind value word.now text.now }
 {
-    if text.len() - at < word.len() {
-        return Found::Nowhere;
-    }
-    let mut k = 0;
-    while k < word.len() {
-        if text[at + k] == word[k] {
-            k += 1;
-        } else {
-            return Found::Nowhere;
-        }
-    }
-    Found::Is {
-        value,
-        next: at + k,
-    }
+    let rest = text.strip_prefix(word)?;
+    Some(Found { value, rest })
 }
 
-// What a byte counts as a digit; 10 for a byte that is none. Inner.
-fn digit_of(byte: u8) -> usize
+// The digit that a byte says. Inner.
+fn digit_of(byte: u8) -> Option<usize>
     ensures { result ≡ digit_in byte }
 {
-    if byte < 48 {
-        return 10;
+    match byte {
+        b'0'..=b'9' => Some(usize::from(byte - b'0')),
+        _ => None,
     }
-    (byte - 48) as usize
 }
 
-// The digits from a place on, behind a number that is read so far. Inner.
-fn digits_at(text: &[u8], at: usize, first: usize) -> Found
-    requires { (at ≤ length text.now) × (first < 32768) }
-    ensures { Reads text.now 32768 at (digits_in first (drop at text.now)) result }
+// The digits at the front, behind a number that is read so far. Inner.
+fn read_digits<'a>(text: &'a [u8], first: usize) -> Option<Found<'a>>
+    requires { first < 32768 }
+    ensures { read_as result ≡ digits_in first text.now }
 {
     let mut value = first;
-    let mut next = at;
-    while next < text.len() {
-        let digit = digit_of(text[next]);
-        if 9 < digit {
-            return Found::Is { value, next };
-        }
-        if 32767 < 10 * value + digit {
-            return Found::Nowhere;
-        }
+    for (i, byte) in text.iter().enumerate() {
+        let Some(digit) = digit_of(*byte) else {
+            return Some(Found {
+                value,
+                rest: &text[i..],
+            });
+        };
         value = 10 * value + digit;
-        next += 1;
+        if 32767 < value {
+            return None;
+        }
     }
-    Found::Is { value, next }
+    Some(Found {
+        value,
+        rest: &text[text.len()..],
+    })
 }
 
-// The number at a place. Inner.
-pub fn number_at(text: &[u8], at: usize) -> Found
-    requires { at ≤ length text.now }
-    ensures { Reads text.now 32768 at (number_in (drop at text.now)) result }
+// The number at the front. Inner.
+pub fn read_number<'a>(text: &'a [u8]) -> Option<Found<'a>>
+    ensures { read_as result ≡ number_in text.now }
 {
-    if at < text.len() {
-        let digit = digit_of(text[at]);
-        if digit == 0 {
-            return Found::Is {
-                value: 0,
-                next: at + 1,
-            };
-        }
-        if 9 < digit {
-            return Found::Nowhere;
-        }
-        return digits_at(text, at + 1, digit);
+    let (first, rest) = text.split_first()?;
+    match digit_of(*first)? {
+        0 => Some(Found { value: 0, rest }),
+        digit => read_digits(rest, digit),
     }
-    Found::Nowhere
 }
 
-// The number behind a word at a place. Inner.
-pub fn counted_at(text: &[u8], at: usize, word: &[u8]) -> Found
-    requires { (at ≤ length text.now) × (0 < length word.now) }
-    ensures { Reads text.now 32768 at (counted_in word.now (drop at text.now)) result }
+// The number behind a word at the front. Inner.
+pub fn read_counted<'a>(text: &'a [u8], word: &[u8]) -> Option<Found<'a>>
+    ensures { read_as result ≡ counted_in word.now text.now }
 {
-    match word_at(text, at, word, 0) {
-        Found::Nowhere => {
-            return Found::Nowhere;
-        }
-        Found::Is { value: _, next } => {
-            return number_at(text, next);
-        }
-    }
+    read_number(read_word(text, word, 0)?.rest)
 }

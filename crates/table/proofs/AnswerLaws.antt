@@ -1,24 +1,21 @@
 -- One answer to each input, and what the numbers of an answer tell of it.
-use mathlib.Core.Path.{◌≡◌, refl, ap, sym, ◌∙◌}
-use mathlib.Core.List.{List}
-use mathlib.Core.Logic.{◌↔◌}
-use Prim.Native.Nat.{ℕ}
+use Rattle.std.proofs.Common.{Result, Ok, Err, ◌≡◌, refl, ap, sym, ◌∙◌, List, ◌↔◌, ℕ}
 use Rattle.common.specs.Choice.{if_eq}
 use Rattle.table.specs.Checking.{check_table}
 use Rattle.table.specs.Answers.{Answer, good, refused, answer, number_of, place_of}
 use Rattle.reader.specs.Walks.{walk_records}
 use Rattle.table.specs.declared.faults.Fault.{Fault}
 use Rattle.table.specs.declared.faults.Fault.TheVariants.{Cut, Kind, Length, Count, Field, Rising}
-use Rattle.table.specs.declared.checks.Checked.{Checked}
-use Rattle.table.specs.declared.checks.Checked.TheVariants.{Good, Refused}
-use Rattle.reader.specs.declared.reader.Walk.{Walk}
+use Rattle.table.specs.declared.faults.Refusal.{Refusal}
+use Rattle.table.specs.declared.checks.Shape.{Shape}
+use Rattle.reader.specs.declared.reader.Cut as reader
 
 -- Two answers that keep the promise of check_table are equal.
-pub one_answer : (t : List ℕ) (r r' : Checked) → r ≡ check_table t → r' ≡ check_table t → r ≡ r'
+pub one_answer : (t : List ℕ) (r r' : Result Shape Refusal) → r ≡ check_table t → r' ≡ check_table t → r ≡ r'
 one_answer t r r' e f = e ∙ sym f
 
 -- So with walk_records, and with a refusal's number and place.
-pub one-walk : (t : List ℕ) (r r' : Walk) → r ≡ walk_records t → r' ≡ walk_records t → r ≡ r'
+pub one-walk : (t : List ℕ) (r r' : Result ℕ reader.Cut) → r ≡ walk_records t → r' ≡ walk_records t → r ≡ r'
 one-walk t r r' e f = e ∙ sym f
 
 pub one_number : (f : Fault) (n n' : ℕ) → n ≡ number_of f → n' ≡ number_of f → n ≡ n'
@@ -36,9 +33,9 @@ fault-blurred Count = Count
 fault-blurred (Field offset) = Field 0
 fault-blurred Rising = Rising
 
-abbrev pub blurred : Checked → Checked
-blurred (Good s) = Good s
-blurred (Refused f at) = Refused (fault-blurred f) at
+abbrev pub blurred : Result Shape Refusal → Result Shape Refusal
+blurred (Ok s) = Ok s
+blurred (Err r) = Err (record { fault = fault-blurred r.fault; at = r.at })
 
 -- What a number and a place came from.
 fault_of : ℕ → Fault
@@ -53,9 +50,9 @@ fault-back Count = refl
 fault-back (Field offset) = refl
 fault-back Rising = refl
 
-back : Answer → Checked
-back (good s) = Good s
-back (refused r) = Refused (fault_of r.number) r.place
+back : Answer → Result Shape Refusal
+back (good s) = Ok s
+back (refused r) = Err (record { fault = fault_of r.number; at = r.place })
 
 place-back : (f : Fault) (at : ℕ) → place_of f at ≡ at
 place-back Cut at = refl
@@ -65,10 +62,10 @@ place-back Count at = refl
 place-back (Field offset) at = refl
 place-back Rising at = refl
 
-answer_back : (r : Checked) → back (answer r) ≡ blurred r
+answer_back : (r : Result Shape Refusal) → back (answer r) ≡ blurred r
 unfolding back
-answer_back (Good s) = refl
-answer_back (Refused f at) = rw (fault-back f, place-back f at)
+answer_back (Ok s) = refl
+answer_back (Err r) = rw (fault-back r.fault, place-back r.fault r.at)
 
 fault-kept : (f : Fault) → number_of (fault-blurred f) ≡ number_of f
 fault-kept Cut = refl
@@ -78,12 +75,12 @@ fault-kept Count = refl
 fault-kept (Field offset) = refl
 fault-kept Rising = refl
 
-answer-kept : (r : Checked) → answer (blurred r) ≡ answer r
-answer-kept (Good s) = refl
-answer-kept (Refused f at) = rw (place-back f at, place-back (fault-blurred f) at, fault-kept f)
+answer-kept : (r : Result Shape Refusal) → answer (blurred r) ≡ answer r
+answer-kept (Ok s) = refl
+answer-kept (Err r) = rw (place-back r.fault r.at, place-back (fault-blurred r.fault) r.at, fault-kept r.fault)
 
 -- Two answers say the same exactly when they are equal but for the offset of the wrong field, which the numbers do not show.
-pub same_answer : (r r' : Checked) → (answer r ≡ answer r') ↔ (blurred r ≡ blurred r')
+pub same_answer : (r r' : Result Shape Refusal) → (answer r ≡ answer r') ↔ (blurred r ≡ blurred r')
 same_answer r r' = (
   (λ e. sym (answer_back r) ∙ ap back e ∙ answer_back r'),
   (λ e. sym (answer-kept r) ∙ ap answer e ∙ answer-kept r'),

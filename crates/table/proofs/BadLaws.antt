@@ -1,13 +1,6 @@
 -- Bad states: what the test says, and the search by halving.
-use mathlib.Core.Path.{◌≡◌, sym, subst}
-use mathlib.Core.Bool.{true, false}
-use mathlib.Core.List.{List, Memᴰ}
-use mathlib.Core.Logic.{◌⊎◌, inl, inr, ◌↔◌}
-use Prim.Native.Nat.{ℕ, ◌+◌, ◌<◌, ◌≤◌}
-use native.Mathlib.Nat.{eq-or-lt_of_le}
-use native.Mathlib.Omega.{arith}
-use lib.Dec.{ltb}
-use borrow.Author.Tests.{ltb-true, ltb-false}
+use Rattle.std.proofs.Common.{◌≡◌, sym, subst, true, false, List, ◌⊎◌, inl, inr, ◌↔◌, ℕ, ◌+◌, ◌<◌, ◌≤◌, eq-or-lt_of_le, arith, ltb, ltb-true, ltb-false}
+use mathlib.Core.List.{Memᴰ}
 use Rattle.common.proofs.BoolLaws.{either}
 use Rattle.common.proofs.FirstLaws.{in-iff}
 use Rattle.table.specs.Systems.{GoodTable, bad_at, bads_of, bad_state, system_of}

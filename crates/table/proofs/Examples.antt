@@ -1,8 +1,5 @@
 -- Worked examples: table A and neighbours of it, and each refusal.
-use mathlib.Core.Path.{◌≡◌, refl}
-use mathlib.Core.List.{List, [], ◌∷◌, ◌++◌}
-use Prim.Native.Nat.{ℕ}
-use lib.ListN.{take}
+use Rattle.std.proofs.Common.{Ok, Err, ◌≡◌, refl, List, [], ◌∷◌, ◌++◌, ℕ, take}
 use Rattle.common.specs.Choice.{if_lt, if_eq}
 use Rattle.meaning.specs.Systems.{System, send, receive}
 use Rattle.reader.specs.Bytes.{number_at}
@@ -16,8 +13,6 @@ use Rattle.table.specs.Systems.{GoodTable, bad_at, system_of}
 use Rattle.reader.specs.Walks.{walk_from, walk_records}
 use Rattle.table.specs.declared.faults.Fault.TheVariants.{Field}
 use Rattle.table.specs.declared.checks.Shape.{Shape}
-use Rattle.table.specs.declared.checks.Checked.TheVariants.{Good, Refused}
-use Rattle.reader.specs.declared.reader.Walk.TheVariants.{Whole}
 
 -- Records of table A: 3 states, 1 channel, 2 messages, start 0; 0 to 0 sends 0; 0 to 1 sends 1; 1 to 2 receives 0; bad 2.
 abbrev header : ℕ → List ℕ
@@ -59,7 +54,7 @@ pub record Worked : Type 0 where
   -- Table A is good, means its system and has five records.
   pub a_good : GoodTable table_a shape_a
   pub a_means : system_of table_a ≡ system_a
-  pub a_records : walk_records table_a ≡ Whole 5
+  pub a_records : walk_records table_a ≡ Ok 5
   -- 1: the empty table; a record cut in its first four bytes, or in its payload; a stray byte behind the last record.
   pub empty : table_answer [] ≡ refused_at 1 0
   pub cut_head : table_answer (take 13 table_a) ≡ refused_at 1 10
@@ -73,14 +68,14 @@ pub record Worked : Type 0 where
   -- 3: a length that is not the kind's, before a payload that is not there.
   pub length_first : table_answer (7 ∷ 0 ∷ 1 ∷ 0 ∷ []) ≡ refused_at 3 0
   -- 4: 15 messages pass and 16 do not; the wrong field stands 7 bytes behind the record's start.
-  pub fifteen : check_table (header 15) ≡ Good (record { states = 3; channels = 1; messages = 15; start = 0; transitions = 0; bads = 0 })
-  pub sixteen : check_table (header 16) ≡ Refused (Field 7) 0
+  pub fifteen : check_table (header 15) ≡ Ok (record { states = 3; channels = 1; messages = 15; start = 0; transitions = 0; bads = 0 })
+  pub sixteen : check_table (header 16) ≡ Err (record { fault = Field 7; at = 0 })
   pub sixteen_refused : table_answer (header 16) ≡ refused_at 4 0
   -- 4: a target that is no state, an operation over 2, a quiet transition with a channel or a message.
-  pub wrong_target : check_table (header 2 ++ transition 0 3 0 0 0) ≡ Refused (Field 6) 10
-  pub wrong_operation : check_table (header 2 ++ transition 0 0 3 0 0) ≡ Refused (Field 8) 10
-  pub quiet_channel : check_table (header 2 ++ transition 0 0 0 1 1) ≡ Refused (Field 9) 10
-  pub quiet_message : check_table (header 2 ++ transition 0 0 0 0 1) ≡ Refused (Field 10) 10
+  pub wrong_target : check_table (header 2 ++ transition 0 3 0 0 0) ≡ Err (record { fault = Field 6; at = 10 })
+  pub wrong_operation : check_table (header 2 ++ transition 0 0 3 0 0) ≡ Err (record { fault = Field 8; at = 10 })
+  pub quiet_channel : check_table (header 2 ++ transition 0 0 0 1 1) ≡ Err (record { fault = Field 9; at = 10 })
+  pub quiet_message : check_table (header 2 ++ transition 0 0 0 0 1) ≡ Err (record { fault = Field 10; at = 10 })
   -- 5: a bad state twice; out of range comes first.
   pub not_rising : table_answer (table_a ++ bad_state 2) ≡ refused_at 5 52
   pub range_first : table_answer (header 2 ++ bad_state 0 ++ bad_state 3) ≡ refused_at 4 16

@@ -1,24 +1,17 @@
 -- A good table: its ranges, its places and its length.
-use mathlib.Core.Path.{◌≡◌, refl, sym}
-use mathlib.Core.List.{List}
-use Prim.Native.Nat.{ℕ, zero, suc, ◌+◌, ◌*◌, ◌<◌, ◌≤◌}
-use native.Mathlib.Omega.{arith}
-use lib.ListN.{length}
+use Rattle.std.proofs.Common.{Result, Ok, Err, ◌≡◌, refl, sym, List, ℕ, zero, suc, ◌+◌, ◌*◌, ◌<◌, ◌≤◌, arith, length}
 use Rattle.table.specs.Checking.{transition_place, bad_place, after_bads, after_transitions, after_header, read_header, scan_transitions, scan_bads, check_rest, check_table}
 use Rattle.table.specs.Transitions.{entry_at}
 use Rattle.table.specs.Systems.{GoodTable, bad_at}
-use Rattle.table.proofs.EndLaws.{no-shape, same_shape}
+use Rattle.table.proofs.EndLaws.{err-ok, same_Ok}
 use Rattle.table.proofs.FrameLaws.{Framed}
 use Rattle.table.proofs.FieldLaws.{HeaderOk, EntryOk}
 use Rattle.table.proofs.ReadLaws.{HeaderRead, header_read}
 use Rattle.table.proofs.ScanLaws.{TransitionsRead, transitions-read, BadsRead, bads-read}
+use Rattle.table.specs.declared.faults.Fault.{Fault}
+use Rattle.table.specs.declared.faults.Refusal.{Refusal}
 use Rattle.table.specs.declared.fields.Header.{Header}
 use Rattle.table.specs.declared.checks.Shape.{Shape}
-use Rattle.table.specs.declared.checks.Checked.TheVariants as checked
-use Rattle.table.specs.declared.fields.Headed.{Headed}
-use Rattle.table.specs.declared.fields.Headed.TheVariants as headed
-use Rattle.table.specs.declared.checks.Scanned.{Scanned}
-use Rattle.table.specs.declared.checks.Scanned.TheVariants as scanned
 
 -- The header of a shape.
 abbrev pub header_in : Shape → Header
@@ -39,24 +32,24 @@ pub good-read : (t : List ℕ) (s : Shape) → GoodTable t s → Read t s
 unfolding check_table check_rest
 good-read t s g = header (read_header t) refl g
   where
-    bads : (h : Header) (n : ℕ) → HeaderRead t h → TransitionsRead t h 0 n → (r : Scanned)
-        → scan_bads (length t) t h.states (transition_place n) 0 0 ≡ r → after_bads h n r ≡ checked.Good s → Read t s
-    bads h n a b (scanned.Done k) p q =
-        let w = same_shape q in
+    bads : (h : Header) (n : ℕ) → HeaderRead t h → TransitionsRead t h 0 n → (r : Result ℕ Refusal)
+        → scan_bads (length t) t h.states (transition_place n) 0 0 ≡ r → after_bads h n r ≡ Ok s → Read t s
+    bads h n a b (Ok k) p q =
+        let w = same_Ok q in
         let l = behind h n a b in
         let c : BadsRead t h.states (transition_place n) 0 0 k =
         bads-read t h.states (transition_place n) (length t) 0 0 k (omega arith) (omega arith) p in
         rw (← w) (record { header = a; transitions = b; bads = c })
-    bads h n a b (scanned.Refused f at) p q = absurd (no-shape q)
+    bads h n a b (Err r) p q = absurd (err-ok q)
 
-    rest : (h : Header) → HeaderRead t h → (r : Scanned) → scan_transitions 1025 t h 0 ≡ r → after_transitions t h r ≡ checked.Good s → Read t s
-    rest h a (scanned.Done n) p q =
+    rest : (h : Header) → HeaderRead t h → (r : Result ℕ Refusal) → scan_transitions 1025 t h 0 ≡ r → after_transitions t h r ≡ Ok s → Read t s
+    rest h a (Ok n) p q =
         bads h n a (transitions-read t h 1025 0 n refl (omega arith) p) (scan_bads (length t) t h.states (transition_place n) 0 0) refl q
-    rest h a (scanned.Refused f at) p q = absurd (no-shape q)
+    rest h a (Err r) p q = absurd (err-ok q)
 
-    header : (r : Headed) → read_header t ≡ r → after_header t r ≡ checked.Good s → Read t s
-    header (headed.Good h) p q = rest h (header_read t h p) (scan_transitions 1025 t h 0) refl q
-    header (headed.Fails f) p q = absurd (no-shape q)
+    header : (r : Result Header Fault) → read_header t ≡ r → after_header t r ≡ Ok s → Read t s
+    header (Ok h) p q = rest h (header_read t h p) (scan_transitions 1025 t h 0) refl q
+    header (Err f) p q = absurd (err-ok q)
 
 module _ (t : List ℕ) (s : Shape) (g : GoodTable t s) where
   -- 1 to 4,096 states, 1 to 4 channels, 1 to 15 messages, and a start that is a state.

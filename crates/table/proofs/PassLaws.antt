@@ -1,7 +1,5 @@
 -- A chain of tests that comes to a good end: what each of its tests found.
-use mathlib.Core.Path.{◌≡◌}
-use mathlib.Core.Logic.{◌⊎◌, inl, inr}
-use Prim.Native.Nat.{ℕ, ◌<◌, ◌≤◌}
+use Rattle.std.proofs.Common.{◌≡◌, ◌⊎◌, inl, inr, ℕ, ◌<◌, ◌≤◌}
 use Rattle.common.specs.Choice.{if_lt, if_eq}
 use Rattle.common.proofs.ChoiceLaws.{lt-cases, eq-cases}
 

@@ -1,7 +1,5 @@
 -- A value is what stands at its fixed places, once each of its parts is.
-use mathlib.Core.Path.{◌≡◌}
-use mathlib.Core.List.{List}
-use Prim.Native.Nat.{ℕ}
+use Rattle.std.proofs.Common.{◌≡◌, List, ℕ}
 use Rattle.reader.specs.Bytes.{byte_at, number_at}
 use Rattle.reader.specs.Records.{part_of}
 use Rattle.table.specs.Fields.{header_of, entry_of}

@@ -1,25 +1,15 @@
 -- A walk that ends well: what it read.
-use mathlib.Core.Path.{◌≡◌, refl, sym, subst}
-use mathlib.Core.List.{List}
-use mathlib.Core.Logic.{◌⊎◌, inl, inr}
-use Prim.Native.Nat.{ℕ, zero, suc, ◌+◌, ◌*◌, ◌<◌, ◌≤◌}
-use native.Mathlib.Nat.{eq-or-lt_of_le}
-use native.Mathlib.Omega.{arith}
-use lib.ListN.{length}
+use Rattle.std.proofs.Common.{Bool, true, false, Result, Ok, Err, ◌≡◌, refl, sym, subst, List, ◌⊎◌, inl, inr, ℕ, zero, suc, ◌+◌, ◌*◌, ◌<◌, ◌≤◌, eq-or-lt_of_le, arith, length}
 use Rattle.common.proofs.ChoiceLaws.{lt-cases}
 use Rattle.reader.specs.Bytes.{number_at}
 use Rattle.reader.specs.Records.{part_of}
 use Rattle.table.specs.Checking.{transition_place, transition_step, scan_transitions, bad_step, scan_bads}
-use Rattle.table.proofs.EndLaws.{no-count, same_count}
+use Rattle.table.proofs.EndLaws.{err-ok, same_Ok}
 use Rattle.table.proofs.FrameLaws.{Framed}
 use Rattle.table.proofs.ReadLaws.{TransitionRead, transition-read, BadRead, bad-read}
+use Rattle.table.specs.declared.faults.Fault.{Fault}
+use Rattle.table.specs.declared.faults.Refusal.{Refusal}
 use Rattle.table.specs.declared.fields.Header.{Header}
-use Rattle.table.specs.declared.fields.Step.{Step}
-use Rattle.table.specs.declared.fields.Step.TheVariants as step
-use Rattle.table.specs.declared.fields.Rise.{Rise}
-use Rattle.table.specs.declared.fields.Rise.TheVariants as rise
-use Rattle.table.specs.declared.checks.Scanned.{Scanned}
-use Rattle.table.specs.declared.checks.Scanned.TheVariants.{Done, Refused}
 
 module _ (t : List ℕ) (h : Header) where
   -- The transitions from number i on, of n.
@@ -40,32 +30,32 @@ module _ (t : List ℕ) (h : Header) where
       go j b (inl e) = subst (λ (m : ℕ). TransitionRead t h (transition_place m) m) e r
       go j b (inr l) = rs.each j (omega arith) b
 
-  pub transitions-read : (k i n : ℕ) → k + i ≡ 1025 → i ≤ 1024 → scan_transitions k t h i ≡ Done n → TransitionsRead i n
+  pub transitions-read : (k i n : ℕ) → k + i ≡ 1025 → i ≤ 1024 → scan_transitions k t h i ≡ Ok n → TransitionsRead i n
   unfolding scan_transitions
   transitions-read zero i n s l e = absurd (omega arith)
   transitions-read (suc k) i n s l e = go (transitions-read k (i + 1) n) (lt-cases _ _ _ _ e)
     where
-      turn : Step → Scanned
-      turn r = elim r [ step.Next ↦ scan_transitions k t h (i + 1) | step.End ↦ Done i | step.Fails f ↦ Refused f (transition_place i) ]
+      turn : Result Bool Fault → Result ℕ Refusal
+      turn r = elim r [ Ok true ↦ scan_transitions k t h (i + 1) | Ok false ↦ Ok i | Err f ↦ Err (record { fault = f; at = transition_place i }) ]
 
-      at : (k + (i + 1) ≡ 1025 → i + 1 ≤ 1024 → scan_transitions k t h (i + 1) ≡ Done n → TransitionsRead (i + 1) n)
-          → (r : Step) → transition_step t h (transition_place i) i ≡ r → turn r ≡ Done n → TransitionsRead i n
-      at later step.Next q d =
+      at : (k + (i + 1) ≡ 1025 → i + 1 ≤ 1024 → scan_transitions k t h (i + 1) ≡ Ok n → TransitionsRead (i + 1) n)
+          → (r : Result Bool Fault) → transition_step t h (transition_place i) i ≡ r → turn r ≡ Ok n → TransitionsRead i n
+      at later (Ok true) q d =
           let r = transition-read t h (transition_place i) i q in
           let c = r.few in
           one_more i n r (later (omega arith) (omega arith) d)
-      at later step.End q d = none_more i n (same_count d) l
-      at later (step.Fails f) q d = absurd (no-count d)
+      at later (Ok false) q d = none_more i n (same_Ok d) l
+      at later (Err f) q d = absurd (err-ok d)
 
-      go : (k + (i + 1) ≡ 1025 → i + 1 ≤ 1024 → scan_transitions k t h (i + 1) ≡ Done n → TransitionsRead (i + 1) n)
-          → ((transition_place i < length t) × (turn (transition_step t h (transition_place i) i) ≡ Done n))
-          ⊎ ((length t ≤ transition_place i) × (Done i ≡ Done n))
+      go : (k + (i + 1) ≡ 1025 → i + 1 ≤ 1024 → scan_transitions k t h (i + 1) ≡ Ok n → TransitionsRead (i + 1) n)
+          → ((transition_place i < length t) × (turn (transition_step t h (transition_place i) i) ≡ Ok n))
+          ⊎ ((length t ≤ transition_place i) × (◌≡◌ {A = Result ℕ Refusal} (Ok i) (Ok n)))
           → TransitionsRead i n
       go later (inl c) = at later (transition_step t h (transition_place i) i) refl c.1
-      go later (inr c) = none_more i n (same_count c.1) l
+      go later (inr c) = none_more i n (same_Ok c.1) l
 
   -- No more than 1,024 transitions are counted.
-  pub few-counted : (n : ℕ) → Done n ≡ scan_transitions 1025 t h 0 → n ≤ 1024
+  pub few-counted : (n : ℕ) → Ok n ≡ scan_transitions 1025 t h 0 → n ≤ 1024
   few-counted n e = (transitions-read 1025 0 n refl (omega arith) (sym e)).few
 
 module _ (t : List ℕ) (states from : ℕ) where
@@ -133,26 +123,26 @@ module _ (t : List ℕ) (states from : ℕ) where
           from-here (inr s) = later b l s
       rises-at a b q l (inr s) = rs.rises a b (omega arith) q l
 
-  pub bads-read : (k i low n : ℕ) → length t ≤ k + i → from + 6 * i ≤ length t → scan_bads k t states from i low ≡ Done n → BadsRead i low n
+  pub bads-read : (k i low n : ℕ) → length t ≤ k + i → from + 6 * i ≤ length t → scan_bads k t states from i low ≡ Ok n → BadsRead i low n
   unfolding scan_bads
-  bads-read zero i low n s p e = no-bads i low n (same_count e) (omega arith)
+  bads-read zero i low n s p e = no-bads i low n (same_Ok e) (omega arith)
   bads-read (suc k) i low n s p e = go (bads-read k (i + 1)) (lt-cases _ _ _ _ e)
     where
-      turn : Rise → Scanned
-      turn r = elim r [ rise.Next next ↦ scan_bads k t states from (i + 1) next | rise.Fails f ↦ Refused f (from + 6 * i) ]
+      turn : Result ℕ Fault → Result ℕ Refusal
+      turn r = elim r [ Ok next ↦ scan_bads k t states from (i + 1) next | Err f ↦ Err (record { fault = f; at = from + 6 * i }) ]
 
       at : ((next m : ℕ) → length t ≤ k + (i + 1) → from + 6 * (i + 1) ≤ length t
-          → scan_bads k t states from (i + 1) next ≡ Done m → BadsRead (i + 1) next m)
-          → (r : Rise) → bad_step t states (from + 6 * i) low ≡ r → turn r ≡ Done n → BadsRead i low n
-      at later (rise.Next next) q d =
+          → scan_bads k t states from (i + 1) next ≡ Ok m → BadsRead (i + 1) next m)
+          → (r : Result ℕ Fault) → bad_step t states (from + 6 * i) low ≡ r → turn r ≡ Ok n → BadsRead i low n
+      at later (Ok next) q d =
           let r = bad-read t states (from + 6 * i) low next q in
           let w = r.framed.there in
           one-bad i low next n r (later next n (omega arith) (omega arith) d)
-      at later (rise.Fails f) q d = absurd (no-count d)
+      at later (Err f) q d = absurd (err-ok d)
 
       go : ((next m : ℕ) → length t ≤ k + (i + 1) → from + 6 * (i + 1) ≤ length t
-          → scan_bads k t states from (i + 1) next ≡ Done m → BadsRead (i + 1) next m)
-          → ((from + 6 * i < length t) × (turn (bad_step t states (from + 6 * i) low) ≡ Done n)) ⊎ ((length t ≤ from + 6 * i) × (Done i ≡ Done n))
+          → scan_bads k t states from (i + 1) next ≡ Ok m → BadsRead (i + 1) next m)
+          → ((from + 6 * i < length t) × (turn (bad_step t states (from + 6 * i) low) ≡ Ok n)) ⊎ ((length t ≤ from + 6 * i) × (◌≡◌ {A = Result ℕ Refusal} (Ok i) (Ok n)))
           → BadsRead i low n
       go later (inl c) = at later (bad_step t states (from + 6 * i) low) refl c.1
-      go later (inr c) = let l = c.0 in no-bads i low n (same_count c.1) (omega arith)
+      go later (inr c) = let l = c.0 in no-bads i low n (same_Ok c.1) (omega arith)

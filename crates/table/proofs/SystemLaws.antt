@@ -1,12 +1,9 @@
 -- The system that a good table means: its numbers, its moves, its bad states, and that it is well made.
-use mathlib.Core.Path.{◌≡◌, ap, sym, ◌∙◌, subst}
+use Rattle.std.proofs.Common.{◌≡◌, ap, sym, ◌∙◌, subst, List, ◌↔◌, ℕ, ◌+◌, ◌<◌, ◌≤◌, arith, length}
 use mathlib.Core.List.Memᴰ
-use mathlib.Core.List.{List, Memᴰ}
-use mathlib.Core.Logic.{◌↔◌}
+use mathlib.Core.List.{Memᴰ}
 use mathlib.Core.Option.{some}
-use Prim.Native.Nat.{ℕ, ◌+◌, ◌<◌, ◌≤◌}
-use native.Mathlib.Omega.{arith}
-use lib.ListN.{length, get_elem?}
+use lib.ListN.{get_elem?}
 use Rattle.meaning.specs.Systems.{Operation, quiet, send, receive, System, Move, MoveOf, WellMade, Ranged}
 use Rattle.table.specs.Transitions.{transition_at, operation_of, move_of}
 use Rattle.table.specs.Systems.{GoodTable, bad_at, moves_of, bads_of, system_with, system_from, system_of}

@@ -1,8 +1,6 @@
 -- What the walk over all records finds in a good table.
-use mathlib.Core.Path.{◌≡◌, sym}
-use mathlib.Core.List.{List}
-use Prim.Native.Nat.{ℕ, zero, suc, ◌+◌, ◌≤◌}
-use native.Mathlib.Omega.{arith}
+use Rattle.std.proofs.Common.{Ok, ◌≡◌, sym, List, ℕ, zero, suc, ◌+◌, ◌≤◌, arith}
+use Rattle.reader.specs.Records.{record_of}
 use Rattle.reader.specs.Walks.{walk_records}
 use Rattle.reader.proofs.WalkLaws.{AtRecord, walk_start, walk-next, walk-done}
 use Rattle.table.specs.Checking.{transition_place, bad_place}
@@ -10,16 +8,15 @@ use Rattle.table.specs.Systems.{GoodTable}
 use Rattle.table.proofs.FrameLaws.{Framed, framed-whole}
 use Rattle.table.proofs.GoodLaws.{length_is, header-framed, transition-framed, bad-framed}
 use Rattle.table.specs.declared.checks.Shape.{Shape}
-use Rattle.reader.specs.declared.reader.Walk.TheVariants.{Whole}
 
 -- Past a record whose frame passes.
 past : (t : List ℕ) (count at kind size : ℕ) → AtRecord t count at → Framed t at kind size → AtRecord t (count + 1) (at + 4 + size)
 past t count at kind size w f =
     let h = f.there in
-    walk-next t w (omega arith) kind size (at + 4 + size) (framed-whole t at kind size f)
+    walk-next t w (omega arith) (record_of at kind size) (framed-whole t at kind size f)
 
 -- A good table has a header, its transitions and its bad states, and no other record.
-pub walk-good : (t : List ℕ) (s : Shape) → GoodTable t s → walk_records t ≡ Whole (1 + s.transitions + s.bads)
+pub walk-good : (t : List ℕ) (s : Shape) → GoodTable t s → walk_records t ≡ Ok (1 + s.transitions + s.bads)
 walk-good t s g = sym (walk-done t (bads s.bads (omega arith)) (omega (arith, length_is t s g)))
   where
     transitions : (i : ℕ) → i ≤ s.transitions → AtRecord t (1 + i) (transition_place i)

@@ -1,12 +1,11 @@
 -- The answer in the numbers that every caller sees: number, input and place of each refusal.
-use Rattle.std.specs.Prelude.{List, ℕ}
+use Rattle.std.specs.Prelude.{List, ℕ, Result, Ok, Err}
 use Rattle.common.specs.Refusal.{Refusal}
 use Rattle.table.specs.Checking.{check_table}
 use Rattle.table.specs.declared.faults.Fault.{Fault}
 use Rattle.table.specs.declared.faults.Fault.TheVariants.{Cut, Kind, Length, Count, Field, Rising}
+use Rattle.table.specs.declared.faults.Refusal as table
 use Rattle.table.specs.declared.checks.Shape.{Shape}
-use Rattle.table.specs.declared.checks.Checked.{Checked}
-use Rattle.table.specs.declared.checks.Checked.TheVariants.{Good, Refused}
 
 -- The number of the refusal for a fault.
 abbrev pub number_of : Fault → ℕ
@@ -40,9 +39,9 @@ pub data Answer : Type 0 where
   refused : Refusal → Answer
 
 -- What an answer of the check says.
-abbrev pub answer : Checked → Answer
-answer (Good s) = good s
-answer (Refused f at) = refused (refusal_of f at)
+abbrev pub answer : Result Shape table.Refusal → Answer
+answer (Ok s) = good s
+answer (Err r) = refused (refusal_of r.fault r.at)
 
 -- What the check of a table says.
 unfoldable pub table_answer : List ℕ → Answer

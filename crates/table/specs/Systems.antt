@@ -1,5 +1,5 @@
 -- The system that a good table means.
-use Rattle.std.specs.Prelude.{◌≡◌, Bool, List, [], ℕ}
+use Rattle.std.specs.Prelude.{◌≡◌, Bool, List, [], ℕ, Result, Ok, Err}
 use Rattle.common.specs.First.{is_in}
 use Rattle.meaning.specs.Systems.{System, Move}
 use Rattle.reader.specs.Bytes.{number_at}
@@ -7,13 +7,12 @@ use Rattle.reader.specs.Records.{part_of}
 use Rattle.table.specs.Checking.{bad_place, check_table}
 use Rattle.table.specs.Transitions.{transition_at, move_of}
 use Rattle.table.specs.Listing.{listed}
+use Rattle.table.specs.declared.faults.Refusal.{Refusal}
 use Rattle.table.specs.declared.checks.Shape.{Shape}
-use Rattle.table.specs.declared.checks.Checked.{Checked}
-use Rattle.table.specs.declared.checks.Checked.TheVariants.{Good, Refused}
 
 -- The table is good and has that shape.
 abbrev pub GoodTable : List ℕ → Shape → Type 0
-GoodTable t s = check_table t ≡ Good s
+GoodTable t s = check_table t ≡ Ok s
 
 -- Bad state i, at its fixed place.
 unfoldable pub bad_at : List ℕ → Shape → ℕ → ℕ
@@ -37,9 +36,9 @@ system_with t s = record
     { states = s.states; channels = s.channels; messages = s.messages; start = s.start; moves = moves_of t s; bad = bads_of t s }
 
 -- The system of an answer. A refused table has no system of its own: it stands for the one without states.
-abbrev pub system_from : List ℕ → Checked → System
-system_from t (Good s) = system_with t s
-system_from t (Refused f at) = record { states = 0; channels = 0; messages = 0; start = 0; moves = []; bad = [] }
+abbrev pub system_from : List ℕ → Result Shape Refusal → System
+system_from t (Ok s) = system_with t s
+system_from t (Err r) = record { states = 0; channels = 0; messages = 0; start = 0; moves = []; bad = [] }
 
 -- The system that a table means.
 unfoldable pub system_of : List ℕ → System

@@ -1,8 +1,9 @@
 // The bad states of a good table. They rise, so one is sought by halving.
-ghost use Rattle.std.specs.Prelude.{◌≡◌, ◌+◌, ◌*◌, ◌<◌, ◌≤◌, length};
-ghost use Rattle.table.specs.Systems.{GoodTable, bad_at, bad_state};
+ghost use Rattle.std.specs.Prelude.{◌≡◌, ◌+◌, ◌*◌, ◌≤◌, length};
+ghost use Rattle.table.specs.Systems.{bad_at, bad_state};
 
 use crate::checks::Shape;
+use crate::good::Table;
 use reader::numbers::number_at;
 use reader::records::part_of;
 
@@ -14,24 +15,25 @@ pub fn bad_at(t: &[u8], s: Shape, i: usize) -> usize
     number_at(part_of(t, 10 + 12 * s.transitions + 6 * i, 2), 0)
 }
 
-// Whether a state is bad. Inner: the table is good and has that shape.
-pub fn is_bad(t: &[u8], s: Shape, state: usize) -> bool
-    requires { GoodTable t.now s }
-    ensures { result ≡ bad_state t.now s state }
-{
-    let mut low: usize = 0;
-    let mut high = s.bads;
-    while low < high {
-        let middle = low + (high - low) / 2;
-        let found = bad_at(t, s, middle);
-        if found == state {
-            return true;
+impl Table<'_> {
+    // Whether a state is bad. The numbers stand in records of bytes, so there is no slice of them for the library's binary search.
+    pub fn is_bad(&self, state: usize) -> bool
+        ensures { result ≡ bad_state self.now.bytes.now self.now.shape state }
+    {
+        let mut low: usize = 0;
+        let mut high = self.shape.bads;
+        while low < high {
+            let middle = low + (high - low) / 2;
+            let found = bad_at(self.bytes, self.shape, middle);
+            if found == state {
+                return true;
+            }
+            if found < state {
+                low = middle + 1;
+            } else {
+                high = middle;
+            }
         }
-        if found < state {
-            low = middle + 1;
-        } else {
-            high = middle;
-        }
+        false
     }
-    false
 }

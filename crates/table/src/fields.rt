@@ -26,28 +26,6 @@ pub struct Entry {
     pub label: usize,
 }
 
-// What the header's place holds: a header in range, or a fault.
-#[derive(Clone, Copy)]
-pub enum Headed {
-    Good(Header),
-    Fails(Fault),
-}
-
-// What a place for a transition holds: a transition in range, the end of the transitions, or a fault.
-#[derive(Clone, Copy)]
-pub enum Step {
-    Next,
-    End,
-    Fails(Fault),
-}
-
-// What a place for a bad state holds: a bad state in range, with the lowest that may follow it, or a fault.
-#[derive(Clone, Copy)]
-pub enum Rise {
-    Next(usize),
-    Fails(Fault),
-}
-
 // The numbers of a header's payload. Inner: its 6 bytes are there.
 pub fn header_of(payload: &[u8]) -> Header
     requires { 6 ≤ length payload.now }
@@ -87,80 +65,80 @@ pub fn entry_of(payload: &[u8]) -> Entry
 }
 
 // The ranges of a header: 1 to 4,096 states, 1 to 4 channels, 1 to 15 messages, and a start that is a state.
-pub fn header_fields(h: Header) -> Headed
+pub fn header_fields(h: Header) -> Result<Header, Fault>
     ensures { result ≡ header_fields h }
 {
     if h.states < 1 {
-        return Headed::Fails(Fault::Field(4));
+        return Err(Fault::Field(4));
     }
     if 4096 < h.states {
-        return Headed::Fails(Fault::Field(4));
+        return Err(Fault::Field(4));
     }
     if h.channels < 1 {
-        return Headed::Fails(Fault::Field(6));
+        return Err(Fault::Field(6));
     }
     if 4 < h.channels {
-        return Headed::Fails(Fault::Field(6));
+        return Err(Fault::Field(6));
     }
     if h.messages < 1 {
-        return Headed::Fails(Fault::Field(7));
+        return Err(Fault::Field(7));
     }
     if 15 < h.messages {
-        return Headed::Fails(Fault::Field(7));
+        return Err(Fault::Field(7));
     }
     if h.states <= h.start {
-        return Headed::Fails(Fault::Field(8));
+        return Err(Fault::Field(8));
     }
-    Headed::Good(h)
+    Ok(h)
 }
 
 // The ranges of a transition's operation, channel and message. A quiet one has channel 0 and message 0.
-pub fn operation_fields(h: Header, e: Entry) -> Step
+pub fn operation_fields(h: Header, e: Entry) -> Result<(), Fault>
     ensures { result ≡ operation_fields h e }
 {
     if 2 < e.operation {
-        return Step::Fails(Fault::Field(8));
+        return Err(Fault::Field(8));
     }
     if e.operation == 0 {
         if e.channel != 0 {
-            return Step::Fails(Fault::Field(9));
+            return Err(Fault::Field(9));
         }
         if e.message != 0 {
-            return Step::Fails(Fault::Field(10));
+            return Err(Fault::Field(10));
         }
-        return Step::Next;
+        return Ok(());
     }
     if h.channels <= e.channel {
-        return Step::Fails(Fault::Field(9));
+        return Err(Fault::Field(9));
     }
     if h.messages <= e.message {
-        return Step::Fails(Fault::Field(10));
+        return Err(Fault::Field(10));
     }
-    Step::Next
+    Ok(())
 }
 
 // The ranges of a transition: source and target are states, then its operation.
-pub fn transition_fields(h: Header, e: Entry) -> Step
+pub fn transition_fields(h: Header, e: Entry) -> Result<(), Fault>
     ensures { result ≡ transition_fields h e }
 {
     if h.states <= e.source {
-        return Step::Fails(Fault::Field(4));
+        return Err(Fault::Field(4));
     }
     if h.states <= e.target {
-        return Step::Fails(Fault::Field(6));
+        return Err(Fault::Field(6));
     }
     operation_fields(h, e)
 }
 
-// A bad state's range, then that it is not below the lowest that may stand there; the next is above it.
-pub fn bad_fields(state: usize, states: usize, low: usize) -> Rise
+// A bad state's range, then that it is not below the lowest that may stand there. The lowest that may follow it, which is above it.
+pub fn bad_fields(state: usize, states: usize, low: usize) -> Result<usize, Fault>
     ensures { result ≡ bad_fields state states low }
 {
     if states <= state {
-        return Rise::Fails(Fault::Field(4));
+        return Err(Fault::Field(4));
     }
     if state < low {
-        return Rise::Fails(Fault::Rising);
+        return Err(Fault::Rising);
     }
-    Rise::Next(state + 1)
+    Ok(state + 1)
 }

@@ -6,10 +6,12 @@ pub mod bads;
 pub mod checks;
 pub mod faults;
 pub mod fields;
+pub mod good;
 pub mod transitions;
 
-// What the later parts name. Public calls, which ask nothing: check_table, number_of and place_of. The others are inner: each asks what its callers prove.
-pub use crate::bads::is_bad;
-pub use crate::checks::{Checked, Shape, check_table};
-pub use crate::faults::{Fault, number_of, place_of};
+// What the later parts name. Public calls, which ask nothing: check_table, Table::check, Table::is_bad, Refusal::place and the conversion
+// of a Fault. The others are inner: each asks what its callers prove.
+pub use crate::checks::{Shape, check_table};
+pub use crate::faults::{Fault, Refusal};
+pub use crate::good::Table;
 pub use crate::transitions::{Operation, Transition, source_at, transition_at};

@@ -1,20 +1,21 @@
 // Transition i of a good table as a value, read at its fixed place.
-ghost use Rattle.std.specs.Prelude.{◌≡◌, ◌+◌, ◌*◌, ◌≤◌, length};
+ghost use Rattle.std.specs.Prelude.{◌≡◌, ◌+◌, ◌*◌, ◌<◌, ◌≤◌, length};
 ghost use Rattle.table.specs.Transitions.{operation_from, transition_at};
 
 use crate::fields::{Entry, entry_of};
+use crate::good::Table;
 use reader::numbers::number_at;
 use reader::records::part_of;
 
 // What a transition does: nothing to the channels, a send on a channel of a message, or a receive.
-#[derive(Clone, Copy)]
+#[derive(Clone, Copy, Debug, PartialEq, Eq)]
 pub enum Operation {
     Quiet,
     Send { channel: usize, message: usize },
     Receive { channel: usize, message: usize },
 }
 
-#[derive(Clone, Copy)]
+#[derive(Clone, Copy, Debug, PartialEq, Eq)]
 pub struct Transition {
     pub source: usize,
     pub target: usize,
@@ -62,4 +63,22 @@ pub fn source_at(t: &[u8], i: usize) -> usize
     ensures { result ≡ (transition_at t.now i).source }
 {
     number_at(part_of(t, 10 + 12 * i, 8), 0)
+}
+
+impl Table<'_> {
+    // Transition i. Inner: it is one of the table's.
+    pub fn transition(&self, i: usize) -> Transition
+        requires { i < self.now.shape.transitions }
+        ensures { result ≡ transition_at self.now.bytes.now i }
+    {
+        transition_at(self.bytes, i)
+    }
+
+    // Where transition i comes from. Inner, as transition is.
+    pub fn source(&self, i: usize) -> usize
+        requires { i < self.now.shape.transitions }
+        ensures { result ≡ (transition_at self.now.bytes.now i).source }
+    {
+        source_at(self.bytes, i)
+    }
 }

@@ -1,49 +1,62 @@
 // What is said of a verdict.
-ghost use Rattle.std.specs.Prelude.{◌+◌, ◌*◌, ◌≤◌, length};
-ghost use Rattle.table.specs.Systems.{GoodTable, system_of};
+ghost use Rattle.std.specs.Prelude.{◌+◌, ◌*◌, ◌≤◌, length, Ok};
+ghost use Rattle.table.specs.Systems.{system_of};
+ghost use Rattle.wording.specs.Lines.{refused_line};
 ghost use Rattle.wording.specs.Steps.{answer_text};
 ghost use Rattle.wording.specs.Written.{Written};
-ghost use Rattle.verdicts.specs.Said.{said_by, StepsFit};
+ghost use Rattle.verdicts.specs.Said.{number_in, place_in, said_by, StepsFit};
 
-use search::searches::Answer;
-use table::Shape;
-use wording::lines::{atoms_full_line, fault_line, refused_line, rows_full_line, safe_line};
+use search::searches::{Refused, Verdict};
+use table::Table;
+use wording::Line;
+use wording::lines::fault_line;
 use wording::steps::unsafe_text;
 
-// Writes all lines of a verdict. The run of an unsafe table stands in the first words of `run`. Inner.
-pub fn write_verdict(out: &mut [u8], t: &[u8], s: Shape, verdict: Answer, run: &[u16]) -> usize
-    requires { GoodTable t.now s × StepsFit verdict run.now × (60 + 14 * length run.now ≤ length out.old) }
-    ensures { Written out.old 0 (answer_text (system_of t.now) (said_by verdict run.now)) out.new result }
+// Writes the line of a refusal. Inner.
+fn write_refused(out: &mut [u8], refused: Refused) -> usize
+    requires { 60 ≤ length out.old }
+    ensures { Written out.old 0 (refused_line (number_in refused) (place_in refused)) out.new result }
+{
+    match refused {
+        Refused::Table(refusal) => fault_line(out, 0, refusal),
+        Refused::SmallWork(place) => Line::Refused { number: 7, place }.write(out, 0),
+        Refused::SmallRun(place) => Line::Refused { number: 8, place }.write(out, 0),
+    }
+}
+
+// Writes all lines of what was found of a table. The run of an unsafe table stands in the first words of `run`. Inner.
+fn write_found(out: &mut [u8], table: &Table, verdict: Verdict, run: &[u16]) -> usize
+    requires { StepsFit (Ok verdict) run.now × (60 + 14 * length run.now ≤ length out.old) }
+    ensures { Written out.old 0 (answer_text (system_of table.now.bytes.now) (said_by (Ok verdict) run.now)) out.new result }
 {
     match verdict {
-        Answer::Refused { fault, at } => {
-            return fault_line(out, 0, fault, at);
-        }
-        Answer::SmallWork(words) => {
-            return refused_line(out, 0, 7, words);
-        }
-        Answer::SmallRun(words) => {
-            return refused_line(out, 0, 8, words);
-        }
-        Answer::Safe(rows) => {
-            return safe_line(out, 0, rows);
-        }
-        Answer::Unsafe { rows, steps } => {
-            return unsafe_text(out, 0, t, s, rows, run, steps);
-        }
-        Answer::RowsFull {
+        Verdict::Safe(rows) => Line::Safe(rows).write(out, 0),
+        Verdict::Unsafe { rows, steps } => unsafe_text(out, 0, table, rows, &run[..steps]),
+        Verdict::RowsFull {
             rows: _,
             row,
             transition,
-        } => {
-            return rows_full_line(out, 0, row, transition);
-        }
-        Answer::AtomsFull {
+        } => Line::RowsFull { row, transition }.write(out, 0),
+        Verdict::AtomsFull {
             rows: _,
             row,
             transition,
-        } => {
-            return atoms_full_line(out, 0, row, transition);
-        }
+        } => Line::AtomsFull { row, transition }.write(out, 0),
+    }
+}
+
+// Writes all lines of what the search answers: what it found, or its refusal. Inner.
+pub fn write_verdict(
+    out: &mut [u8],
+    table: &Table,
+    verdict: Result<Verdict, Refused>,
+    run: &[u16],
+) -> usize
+    requires { StepsFit verdict run.now × (60 + 14 * length run.now ≤ length out.old) }
+    ensures { Written out.old 0 (answer_text (system_of table.now.bytes.now) (said_by verdict run.now)) out.new result }
+{
+    match verdict {
+        Ok(found) => write_found(out, table, found, run),
+        Err(refused) => write_refused(out, refused),
     }
 }

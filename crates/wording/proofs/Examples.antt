@@ -1,12 +1,11 @@
 -- The outputs that the rules write out, as the definitions give them.
-use mathlib.Core.Path.{◌≡◌, refl}
-use mathlib.Core.List.{[], ◌∷◌}
+use Rattle.std.proofs.Common.{◌≡◌, refl, [], ◌∷◌}
 use Rattle.common.specs.Choice.{if_lt}
 use Rattle.meaning.specs.Systems.{send, System}
 use Rattle.meaning.specs.Systems as meaning
 use Rattle.wording.specs.Words.{bytes_of}
 use Rattle.wording.specs.Numbers.{digits_of, number_text}
-use Rattle.wording.specs.Lines.{counted, one_line, two_line}
+use Rattle.wording.specs.Lines.{counted}
 use Rattle.wording.specs.Steps.{happened, step_line, run_lines, unsafe_text, answer_text, too_long, refused, safe, unsafe, rows_full, atoms_full}
 
 -- Table A of the rules.
@@ -28,5 +27,5 @@ outputs : (answer_text a (unsafe 4 (0 ∷ 32769 ∷ 2 ∷ [])) ≡ bytes_of "uns
     × (answer_text a (refused 1 0) ≡ bytes_of "refused 1 at 0\n")
     × (answer_text a (refused 4 36868) ≡ bytes_of "refused 4 at 36868\n")
     × (answer_text a too_long ≡ bytes_of "too long\n")
-unfolding a if_lt digits_of number_text counted one_line two_line happened step_line run_lines unsafe_text
+unfolding a if_lt digits_of number_text counted happened step_line run_lines unsafe_text
 outputs = (refl, refl, refl, refl, refl, refl, refl)

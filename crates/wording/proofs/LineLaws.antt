@@ -1,33 +1,26 @@
 -- First lines: how long they are, and that their parts, written one behind the other, make them.
-use mathlib.Core.Path.{◌≡◌}
-use mathlib.Core.List.{List, ◌++◌}
-use Prim.Native.Nat.{ℕ, ◌+◌, ◌<◌, ◌≤◌, ◌^◌}
-use native.Mathlib.Omega.{arith}
-use lib.ListN.{length, length-append}
+use Rattle.std.proofs.Common.{Bor, ◌≡◌, List, ◌∷◌, ◌++◌, ℕ, ◌+◌, ◌<◌, ◌≤◌, ◌^◌, length, get_or, drop, length-append, drop-cons, add-one, arith}
 use Rattle.wording.specs.Words.{refused_word, input_word, place_word, end_word}
 use Rattle.wording.specs.Numbers.{number_text}
-use Rattle.wording.specs.Lines.{counted, one_line, two_line, three_line, safe_line, unsafe_line, rows_full_line, atoms_full_line, refused_line}
+use Rattle.wording.specs.Lines.{counted, line_of, one_line, two_line, three_line, safe_line, unsafe_line, rows_full_line, atoms_full_line, refused_line}
 use Rattle.wording.specs.Answers.{refusal_line}
 use Rattle.wording.specs.Written.{Written}
 use Rattle.wording.proofs.NumberLaws.{number_short}
-use Rattle.wording.proofs.WrittenLaws.{written_then}
+use Rattle.wording.proofs.WrittenLaws.{written-length, written_then}
 
 pub counted-length : (w : List ℕ) (n : ℕ) → length (counted w n) ≡ length w + length (number_text n)
 unfolding counted
 counted-length w n = length-append w (number_text n)
 
 pub one-length : (w : List ℕ) (n : ℕ) → length (one_line w n) ≡ length (counted w n) + 1
-unfolding one_line
 one-length w n = length-append (counted w n) end_word
 
 pub two-length : (v : List ℕ) (a : ℕ) (w : List ℕ) (b : ℕ) → length (two_line v a w b) ≡ length (counted v a) + length (counted w b) + 1
-unfolding two_line
-two-length v a w b = simp length-append
+two-length v a w b = simp length-append (omega arith)
 
 pub three-length : (u : List ℕ) (a : ℕ) (v : List ℕ) (b : ℕ) (w : List ℕ) (c : ℕ)
     → length (three_line u a v b w c) ≡ length (counted u a) + length (counted v b) + length (counted w c) + 1
-unfolding three_line
-three-length u a v b w c = simp length-append
+three-length u a v b w c = simp length-append (omega arith)
 
 -- A number of 64 bits has at most 20 digits.
 pub long-number : (n : ℕ) → n < 2 ^ 64 → length (number_text n) ≤ 20
@@ -51,36 +44,35 @@ module _ (n : ℕ) (h : n < 2 ^ 64) where
     pub refused-length : length (refused_line n m) ≤ 60
     refused-length = let a = long-number n h in let b = long-number m k in simp (two-length, counted-length) (omega arith)
 
-pub counted-written : (l : List ℕ) (a : ℕ) (w : List ℕ) (n : ℕ) (m : List ℕ) (b : ℕ) (k : List ℕ) (c : ℕ)
-    → Written l a w m b → Written m b (number_text n) k c → Written l a (counted w n) k c
-unfolding counted
-counted-written l a w n m b k c x y = written_then l a w m b (number_text n) k c x y
+-- ---- a line of parts
 
-pub one_written : (l : List ℕ) (a : ℕ) (w : List ℕ) (n : ℕ) (m : List ℕ) (b : ℕ) (k : List ℕ) (c : ℕ)
-    → Written l a (counted w n) m b → Written m b end_word k c → Written l a (one_line w n) k c
-unfolding one_line
-one_written l a w n m b k c x y = written_then l a (counted w n) m b end_word k c x y
+-- The parts before number k are written, d is what the buffer holds then, and b the place behind them: the rest has room, and makes the line.
+pub record Lining (parts : List (Bor (List ℕ) × ℕ)) (l : List ℕ) (a : ℕ) (d : List ℕ) (b k : ℕ) : Type 0 where
+  pub room : b + length (line_of (drop k parts)) ≤ length d
+  pub rest : (m : List ℕ) (r : ℕ) → Written d b (line_of (drop k parts)) m r → Written l a (line_of parts) m r
 
-pub two-written : (l : List ℕ) (a : ℕ) (v : List ℕ) (i : ℕ) (w : List ℕ) (j : ℕ) (l₁ : List ℕ) (b : ℕ) (l₂ : List ℕ) (c : ℕ) (l₃ : List ℕ) (d : ℕ)
-    → Written l a (counted v i) l₁ b → Written l₁ b (counted w j) l₂ c → Written l₂ c end_word l₃ d → Written l a (two_line v i w j) l₃ d
-unfolding two_line
-two-written l a v i w j l₁ b l₂ c l₃ d x y z =
-    written_then l a (counted v i ++ counted w j) l₂ c end_word l₃ d (written_then l a (counted v i) l₁ b (counted w j) l₂ c x y) z
+module _ (parts : List (Bor (List ℕ) × ℕ)) (l : List ℕ) (a : ℕ) (d : List ℕ) (b k : ℕ) (w : Lining parts l a d b k) (p : Bor (List ℕ) × ℕ) (h : k < length parts) where
+  lining-here : drop k parts ≡ get_or parts k p ∷ drop (k + 1) parts
+  lining-here = rw (add-one, drop-cons parts k p)
 
--- The same line with numbers that are the same.
-pub refused_as : (l : List ℕ) (a i j i' j' : ℕ) (m : List ℕ) (r : ℕ) → i ≡ i' → j ≡ j' → Written l a (refused_line i j) m r → Written l a (refused_line i' j') m r
-refused_as l a i j i' j' m r e f w = rw (← e, ← f) w
+  pub lining-room : b + length (get_or parts k p).0.now + length (number_text (get_or parts k p).1) ≤ length d
+  unfolding counted
+  lining-room = let t = rw lining-here at w.room in let f = simp length-append at t in omega arith
 
-pub three-written : (l : List ℕ) (a : ℕ) (u : List ℕ) (i : ℕ) (v : List ℕ) (j : ℕ) (w : List ℕ) (k : ℕ) (l₁ : List ℕ) (b : ℕ) (l₂ : List ℕ) (c : ℕ) (l₃ : List ℕ) (d : ℕ) (l₄ : List ℕ) (e : ℕ)
-    → Written l a (counted u i) l₁ b → Written l₁ b (counted v j) l₂ c → Written l₂ c (counted w k) l₃ d → Written l₃ d end_word l₄ e
-    → Written l a (three_line u i v j w k) l₄ e
-unfolding three_line
-three-written l a u i v j w k l₁ b l₂ c l₃ d l₄ e x y z t =
-    written_then l a (counted u i ++ counted v j ++ counted w k) l₃ d end_word l₄ e
-    (written_then l a (counted u i ++ counted v j) l₂ c (counted w k) l₃ d (written_then l a (counted u i) l₁ b (counted v j) l₂ c x y) z) t
-
-pub refusal-as : (l : List ℕ) (a n i p n' p' : ℕ) (m : List ℕ) (r : ℕ) → n ≡ n' → p ≡ p' → Written l a (refusal_line n i p) m r → Written l a (refusal_line n' i p') m r
-refusal-as l a n i p n' p' m r e f w = rw (← e, ← f) w
+  pub lining-on : (text e : List ℕ) (c : ℕ) (m : List ℕ) (r : ℕ) → text ≡ (get_or parts k p).0.now → Written d b text e c → Written e c (number_text (get_or parts k p).1) m r
+      → Lining parts l a m r (k + 1)
+  unfolding counted
+  lining-on text e c m r q x y =
+      let z : Written d b ((get_or parts k p).0.now ++ number_text (get_or parts k p).1) m r =
+      rw (← q) (written_then d b text e c (number_text (get_or parts k p).1) m r x y) in
+      record {
+        room =
+            let t = rw lining-here at w.room in
+            let f = simp length-append at t in
+            let g = simp length-append at z.next in
+            let i = written-length _ _ _ _ _ z in omega arith;
+        rest = λ n i v. w.rest n i (rw lining-here (written_then _ _ _ _ _ _ _ _ z v));
+      }
 
 -- Short words with numbers of 64 bits behind them fit where 80 bytes do.
 module _ (w : List ℕ) (h : length w ≤ 16) (n : ℕ) (k : n < 2 ^ 64) (m : ℕ) (r : 80 ≤ m) where

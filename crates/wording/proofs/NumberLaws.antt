@@ -1,12 +1,7 @@
 -- Decimal digits: one digit, one digit more, and how many there are at most.
-use mathlib.Core.Path.{◌≡◌, refl, sym, ap, ◌∙◌}
-use mathlib.Core.Logic.{◌⊎◌, inl, inr}
-use mathlib.Core.List.{List, [], ◌∷◌, ◌++◌}
-use Prim.Native.Nat.{ℕ, zero, suc, ◌+◌, ◌*◌, ◌-◌, ◌/◌, ◌%◌, ◌^◌, ◌<◌, ◌≤◌}
-use native.Mathlib.Nat.{pow-succ'}
-use native.Mathlib.Omega.{arith}
-use native.Mathlib.Decide.{dec_le}
-use lib.ListN.{length, length-append}
+use Rattle.std.proofs.Common.{◌≡◌, refl, sym, ap, ◌∙◌, ◌⊎◌, inl, inr, List, [], ◌∷◌, ◌++◌, ℕ, zero, suc, ◌+◌, ◌*◌, ◌-◌, ◌/◌, ◌%◌, ◌^◌, ◌<◌, ◌≤◌, length, length-append, arith}
+use Rattle.std.proofs.Math.Decide.{dec_le}
+use Rattle.std.proofs.Math.Nat.{pow-succ'}
 use Rattle.common.proofs.ChoiceLaws.{lt-then, lt-else}
 use Rattle.wording.specs.Numbers.{digit, digits_of, number_text}
 
@@ -42,9 +37,6 @@ unfolding number_text
 number_more zero h = absurd (omega arith)
 number_more (suc n) h =
     more n (suc n) h ∙ ap (λ (l : List ℕ). l ++ (digit (suc n % 10) ∷ [])) (enough n (suc n / 10) (suc n / 10) (omega arith) (omega arith))
-
-pub number-length-one : (n : ℕ) → n < 10 → length (number_text n) ≡ 1
-number-length-one n h = rw (number-one n h)
 
 pub number-length-more : (n : ℕ) → 10 ≤ n → length (number_text n) ≡ length (number_text (n / 10)) + 1
 number-length-more n h = ap length (number_more n h) ∙ length-append (number_text (n / 10)) (digit (n % 10) ∷ [])

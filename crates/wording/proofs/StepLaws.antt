@@ -1,13 +1,8 @@
 -- Step lines: how long they are, and that their parts, written one behind the other, make them.
-use mathlib.Core.Path.{◌≡◌, refl, sym, ap, subst, ◌∙◌}
-use mathlib.Core.Bool.{Bool, true, false}
-use mathlib.Core.List.{List, [], ◌∷◌, ◌++◌, append_assoc, append-nil}
-use mathlib.Core.Option.{Option, none, some}
-use Prim.Native.Nat.{ℕ, zero, suc, ◌+◌, ◌*◌, ◌%◌, ◌<◌, ◌≤◌}
-use native.Mathlib.Omega.{arith}
-use lib.ListN.{length, get_or, get_elem?, length-append}
-use Rattle.common.specs.Part.{part}
-use Rattle.common.proofs.PartLaws.{part_none, part-snoc, part_length}
+use Rattle.std.proofs.Common.{◌≡◌, refl, sym, ap, subst, ◌∙◌, Bool, true, false, List, [], ◌∷◌, ◌++◌, append_assoc, append-nil, ℕ, zero, suc, ◌+◌, ◌*◌, ◌<◌, ◌≤◌, length, get_or, take, length-append, add-one, arith}
+use Rattle.std.proofs.Math.Option.{Option, none, some}
+use Rattle.std.proofs.Math.ListN.{get_elem?}
+use Rattle.std.proofs.Math.Seq.{take-suc}
 use Rattle.meaning.specs.Systems as meaning
 use Rattle.meaning.specs.Systems.{System, Move}
 use Rattle.table.specs.Transitions.{transition_at, operation_of, move_of}
@@ -15,10 +10,8 @@ use Rattle.table.specs.Systems.{GoodTable, system_of}
 use Rattle.table.proofs.SystemLaws.{moves-length, move-at}
 use Rattle.table.specs.declared.checks.Shape.{Shape}
 use Rattle.table.specs.declared.transitions.Transition.{Transition}
-use Rattle.table.specs.declared.transitions.Operation.{Operation}
-use Rattle.table.specs.declared.transitions.Operation.TheVariants.{Quiet, Send, Receive}
 use Rattle.playing.specs.Play.{number, lost}
-use Rattle.wording.specs.Words.{kept_word, lost_word, receive_word, quiet_word, end_word}
+use Rattle.wording.specs.Words.{end_word}
 use Rattle.wording.specs.Numbers.{number_text}
 use Rattle.wording.specs.Lines.{unsafe_line}
 use Rattle.wording.specs.Steps.{happened, happened_to, step_line, run_lines, unsafe_text}
@@ -28,7 +21,7 @@ use Rattle.wording.proofs.WrittenLaws.{written_none, written-length, written_the
 
 -- ---- what became of a message
 
-happened-short : (g : Bool) (o : meaning.Operation) → length (happened g o) ≤ 8
+pub happened-short : (g : Bool) (o : meaning.Operation) → length (happened g o) ≤ 8
 unfolding happened
 happened-short g meaning.quiet = omega arith
 happened-short g (meaning.receive c m) = omega arith
@@ -38,23 +31,6 @@ happened-short false (meaning.send c m) = omega arith
 happened-to-short : (g : Bool) (o : Option Move) → length (happened_to g o) ≤ 8
 happened-to-short g none = omega arith
 happened-to-short g (some t) = happened-short g t.operation
-
-module _ {l : List ℕ} {a : ℕ} {m : List ℕ} {r : ℕ} (g : Bool) {o : Operation} where
-  pub quiet_told : o ≡ Quiet → Written l a quiet_word m r → Written l a (happened g (operation_of o)) m r
-  unfolding happened
-  quiet_told e w = rw e w
-
-  pub receive-told : {c k : ℕ} → o ≡ Receive c k → Written l a receive_word m r → Written l a (happened g (operation_of o)) m r
-  unfolding happened
-  receive-told e w = rw e w
-
-  pub lost-told : {c k : ℕ} → o ≡ Send c k → g ≡ true → Written l a lost_word m r → Written l a (happened g (operation_of o)) m r
-  unfolding happened
-  lost-told e f w = rw (e, f) w
-
-  pub kept-told : {c k : ℕ} → o ≡ Send c k → g ≡ false → Written l a kept_word m r → Written l a (happened g (operation_of o)) m r
-  unfolding happened
-  kept-told e f w = rw (e, f) w
 
 -- Nothing stands behind a list's end.
 none_past : {A : Type 0} (l : List A) (n : ℕ) → length l ≤ n → get_elem? l n ≡ none
@@ -75,8 +51,8 @@ module _ (t : List ℕ) (s : Shape) (g : GoodTable t s) (gone : Bool) (i : ℕ) 
 -- ---- a step
 
 -- A run word's number has at most 5 digits.
-pub word_number : (w : ℕ) → length (number_text (number w)) ≤ 5
-word_number w = number_short 4 (w % 32768) (omega arith)
+pub word_number : (w n : ℕ) → n ≡ number w → length (number_text n) ≤ 5
+word_number w n e = number_short 4 n (omega arith)
 
 -- What a move's word takes.
 pub move-short : (S : System) (g : Bool) (i : ℕ) → length (happened_to g (get_elem? S.moves i)) ≤ 8
@@ -85,7 +61,7 @@ move-short S g i = happened-to-short g (get_elem? S.moves i)
 pub step-length : (S : System) (w : ℕ) → length (step_line S w) ≤ 14
 unfolding step_line
 step-length S w =
-    let k = word_number w in
+    let k = word_number w (number w) refl in
     let h = move-short S (lost w) (number w) in
     simp length-append (omega arith)
 
@@ -106,41 +82,29 @@ unfolding run_lines
 runs_on S [] w = append-nil (step_line S w)
 runs_on S (x ∷ ws) w = ap (λ (r : List ℕ). step_line S x ++ r) (runs_on S ws w) ∙ sym (append_assoc (step_line S x) (run_lines S ws) (step_line S w))
 
--- Of n steps i are written, and b is the place behind them.
-pub record Telling (S : System) (run l : List ℕ) (a n : ℕ) (d : List ℕ) (b i : ℕ) : Type 0 where
-  pub high : i ≤ n
+-- The lines of the first i words are written, and b is the place behind them.
+pub record Telling (S : System) (ws l : List ℕ) (a : ℕ) (d : List ℕ) (b i : ℕ) : Type 0 where
   pub low : b ≤ a + 14 * i
   pub same : length d ≡ length l
-  pub written : Written l a (run_lines S (part 0 i run)) d b
+  pub written : Written l a (run_lines S (take i ws)) d b
 
-pub telling-starts : (S : System) (run l : List ℕ) (a n : ℕ) → a ≤ length l → Telling S run l a n l a 0
+pub telling-starts : (S : System) (ws l : List ℕ) (a : ℕ) → a ≤ length l → Telling S ws l a l a 0
 unfolding run_lines
-telling-starts S run l a n h = record {
-  high = omega arith;
-  low = omega arith;
-  same = refl;
-  written = rw (part_none 0 0 run (omega arith)) (written_none l a h);
-}
+telling-starts S ws l a h = record { low = omega arith; same = refl; written = written_none l a h }
 
-pub telling-on : (S : System) (run l : List ℕ) (a n : ℕ) (d : List ℕ) (b i : ℕ) (e : List ℕ) (c : ℕ) → Telling S run l a n d b i → i < n → n ≤ length run
-    → Written d b (step_line S (get_or run i 0)) e c → Telling S run l a n e c (i + 1)
-telling-on S run l a n d b i e c w h k x =
-    let z = step-length S (get_or run i 0) in
+pub telling-on : (S : System) (ws l : List ℕ) (a : ℕ) (d : List ℕ) (b i : ℕ) (e : List ℕ) (c : ℕ) → Telling S ws l a d b i → i < length ws
+    → Written d b (step_line S (get_or ws i 0)) e c → Telling S ws l a e c (i + 1)
+telling-on S ws l a d b i e c w h x =
+    let z = step-length S (get_or ws i 0) in
     record {
-      high = omega arith;
       low = omega (arith, w.low, x.next);
-      same = written-length d b (step_line S (get_or run i 0)) e c x ∙ w.same;
-      written = rw (part-snoc 0 i run (omega arith) (omega arith), runs_on) (written_then l a (run_lines S (part 0 i run)) d b (step_line S (get_or run i 0)) e c w.written x);
+      same = written-length d b (step_line S (get_or ws i 0)) e c x ∙ w.same;
+      written = rw (add-one, take-suc ws i 0, runs_on) (written_then l a (run_lines S (take i ws)) d b (step_line S (get_or ws i 0)) e c w.written x);
     }
-
-pub telling-ends : (S : System) (run l : List ℕ) (a n : ℕ) (d : List ℕ) (b i : ℕ) → Telling S run l a n d b i → n ≤ i → Written l a (run_lines S (part 0 n run)) d b
-telling-ends S run l a n d b i w h = let e : i ≡ n = omega (arith, w.high) in rw e at w.written
 
 -- ---- an unsafe table
 
-pub unsafe-written : (S : System) (rows : ℕ) (run : List ℕ) (n : ℕ) (l : List ℕ) (a : ℕ) (m : List ℕ) (b : ℕ) (k : List ℕ) (c : ℕ) → n ≤ length run → Written l a (unsafe_line rows n) m b
-    → Written m b (run_lines S (part 0 n run)) k c → Written l a (unsafe_text S rows (part 0 n run)) k c
+pub unsafe-written : (S : System) (rows : ℕ) (run l : List ℕ) (a : ℕ) (m : List ℕ) (b : ℕ) (k : List ℕ) (c : ℕ) → Written l a (unsafe_line rows (length run)) m b
+    → Written m b (run_lines S run) k c → Written l a (unsafe_text S rows run) k c
 unfolding unsafe_text
-unsafe-written S rows run n l a m b k c h x y =
-    let e : length (part 0 n run) ≡ n = part_length 0 n run h ∙ omega arith in
-    rw e (written_then l a (unsafe_line rows n) m b (run_lines S (part 0 n run)) k c x y)
+unsafe-written S rows run l a m b k c x y = written_then l a (unsafe_line rows (length run)) m b (run_lines S run) k c x y

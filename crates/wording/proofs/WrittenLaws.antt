@@ -1,13 +1,10 @@
 -- Texts written one behind the other.
-use mathlib.Core.Path.{◌≡◌, refl, sym, ap, ◌∙◌}
-use mathlib.Core.List.{List, [], ◌∷◌, ◌++◌}
-use Prim.Native.Nat.{ℕ, ◌+◌, ◌/◌, ◌%◌, ◌<◌, ◌≤◌}
-use native.Mathlib.Omega.{arith}
-use lib.ListN.{length, get_or, set, length-set, length-append}
-use Rattle.common.specs.Part.{part}
+use Rattle.std.proofs.Common.{◌≡◌, refl, sym, ap, ◌∙◌, List, [], ◌∷◌, ◌++◌, ℕ, ◌+◌, ◌-◌, ◌/◌, ◌%◌, ◌<◌, ◌≤◌, length, take, drop, set, length-append, arith}
+use Rattle.std.proofs.Math.Seq.{take-length}
+use Rattle.std.proofs.lemmas.Slice.{put_mid-paste}
+use borrow.Rule.Slice.PartMut.{put_mid}
 use Rattle.common.specs.Store.{put_at}
-use Rattle.common.proofs.PartLaws.{part_none, part-snoc, part_length, part-all}
-use Rattle.common.proofs.StoreLaws.{put-none, put_one, put_then, put_next, put-length}
+use Rattle.common.proofs.StoreLaws.{put-none, put_one, put_then, put-length}
 use Rattle.wording.specs.Numbers.{digit, number_text}
 use Rattle.wording.specs.Written.{Written}
 use Rattle.wording.proofs.NumberLaws.{number-one, number_more}
@@ -29,45 +26,36 @@ written_then l a xs m b ys n c v w = record {
 pub written_one : (l : List ℕ) (a x : ℕ) → a < length l → Written l a (x ∷ []) (set l a x) (a + 1)
 written_one l a x h = record { holds = put_one l a x h; next = refl; inside = omega arith }
 
--- ---- a text, byte by byte
-
--- The first k bytes of a text are written.
-pub record Copying (l : List ℕ) (a : ℕ) (text d : List ℕ) (k : ℕ) : Type 0 where
-  pub high : k ≤ length text
-  pub same : length d ≡ length l
-  pub holds : d ≡ put_at l a (part 0 k text)
-
-pub copying-starts : (l : List ℕ) (a : ℕ) (text : List ℕ) → Copying l a text l 0
-copying-starts l a text = record { high = omega arith; same = refl; holds = rw (part_none 0 0 text (omega arith)) (put-none l a) }
-
-pub copying-on : (l : List ℕ) (a : ℕ) (text d : List ℕ) (k : ℕ) → Copying l a text d k → k < length text → a + length text ≤ length l
-    → Copying l a text (set d (a + k) (get_or text k 0)) (k + 1)
-copying-on l a text d k w h m =
-    let e : length (part 0 k text) ≡ k = part_length 0 k text (omega arith) ∙ omega arith in
-    record {
-      high = omega arith;
-      same = length-set d (a + k) (get_or text k 0) ∙ w.same;
-      holds = ap (λ (r : List ℕ). set r (a + k) (get_or text k 0)) w.holds ∙ put_next l a (part 0 k text) (a + k) (get_or text k 0) (omega arith) (omega arith)
-          ∙ ap (put_at l a) (sym (part-snoc 0 k text (omega arith) h));
-    }
-
-pub copying-ends : (l : List ℕ) (a : ℕ) (text d : List ℕ) (k : ℕ) → Copying l a text d k → length text ≤ k → a + length text ≤ length l → Written l a text d (a + k)
-copying-ends l a text d k w h i =
-    let e : k ≡ length text = omega (arith, w.high) in
-    record { holds = w.holds ∙ ap (λ (j : ℕ). put_at l a (part 0 j text)) e ∙ ap (put_at l a) (part-all text); next = omega arith; inside = omega arith }
+-- A text copied over the places from a on.
+pub written-over : (l : List ℕ) (a : ℕ) (text ys : List ℕ) → ys ≡ text → a + length text ≤ length l → Written l a text (put_mid a (a + length text - a) l ys) (a + length text)
+unfolding put_at
+written-over l a text ys e h = record {
+  holds = put_mid-paste a (a + length text - a) l ys text (length text) e (omega arith) refl ∙ ap (λ (x : List ℕ). take a l ++ x ++ drop (a + length text) l) (take-length text);
+  next = refl;
+  inside = h;
+}
 
 -- ---- a number
 
-pub number-written-one : (l : List ℕ) (a n x : ℕ) → n < 10 → a < length l → x ≡ digit n → Written l a (number_text n) (set l a x) (a + 1)
-number-written-one l a n x h k e = rw (number-one n h, e) (written_one l a (digit n) k)
+-- Of a number's digits all but the last one are written.
+pub record AllButLast (l : List ℕ) (a n : ℕ) (m : List ℕ) (b : ℕ) : Type 0 where
+  pub front : List ℕ
+  pub splits : number_text n ≡ front ++ (digit (n % 10) ∷ [])
+  pub written : Written l a front m b
 
-pub number-written-more : (l : List ℕ) (a n : ℕ) (m : List ℕ) (b x : ℕ) → 10 ≤ n → Written l a (number_text (n / 10)) m b → a + length (number_text n) ≤ length l
-    → x ≡ digit (n % 10) → Written l a (number_text n) (set m b x) (b + 1)
-number-written-more l a n m b x h w k e =
-    rw (number_more n h, e) (written_then l a (number_text (n / 10)) m b (digit (n % 10) ∷ []) (set m b (digit (n % 10))) (b + 1) w (written_one m b (digit (n % 10)) inside))
-  where
-    longer : length (number_text n) ≡ length (number_text (n / 10)) + 1
-    longer = ap length (number_more n h) ∙ length-append (number_text (n / 10)) (digit (n % 10) ∷ [])
+pub none-before : (l : List ℕ) (a n : ℕ) → n < 10 → a ≤ length l → AllButLast l a n l a
+none-before l a n h k =
+    let e : n % 10 ≡ n = omega arith in
+    record { front = []; splits = number-one n h ∙ rw e; written = written_none l a k }
 
-    inside : b < length m
-    inside = omega (arith, w.next, longer, written-length l a (number_text (n / 10)) m b w)
+pub some-before : (l : List ℕ) (a n : ℕ) (m : List ℕ) (b : ℕ) → 10 ≤ n → Written l a (number_text (n / 10)) m b → AllButLast l a n m b
+some-before l a n m b h w = record { front = number_text (n / 10); splits = number_more n h; written = w }
+
+module _ (l : List ℕ) (a n : ℕ) (m : List ℕ) (b : ℕ) (w : AllButLast l a n m b) (h : a + length (number_text n) ≤ length l) where
+  pub last-inside : b < length m
+  last-inside =
+      let e = ap length w.splits ∙ length-append w.front (digit (n % 10) ∷ []) in
+      omega (arith, w.written.next, written-length _ _ _ _ _ w.written)
+
+  pub last-written : Written l a (number_text n) (set m b (digit (n % 10))) (b + 1)
+  last-written = rw w.splits (written_then _ _ _ _ _ _ _ _ w.written (written_one m b (digit (n % 10)) last-inside))

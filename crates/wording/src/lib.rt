@@ -2,7 +2,8 @@
 // asks for no more than room and a good table. All functions here are inner.
 #![tactic(auto)]
 
-pub mod answers;
 pub mod lines;
 pub mod steps;
 pub mod texts;
+
+pub use crate::lines::Line;

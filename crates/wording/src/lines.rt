@@ -1,114 +1,157 @@
-// The first lines that the program can write. All functions here are inner.
+// The lines that the programs write.
 ghost use Rattle.std.specs.Prelude.{◌+◌, ◌≤◌, length};
 ghost use Rattle.table.specs.Answers.{number_of, place_of};
-ghost use Rattle.wording.specs.Lines.{counted, one_line, two_line, three_line, safe_line, unsafe_line, rows_full_line, atoms_full_line, refused_line, too_long_line};
+ghost use Rattle.wording.specs.Lines.{line_of, refused_line};
+ghost use Rattle.wording.specs.Answers.{refusal_line, text_of};
 ghost use Rattle.wording.specs.Written.{Written};
 
 use crate::texts::{write_bytes, write_number};
-use table::{Fault, number_of, place_of};
+use table::Refusal;
 
-// Writes a word with a number behind it. Inner.
-fn write_counted(out: &mut [u8], at: usize, word: &[u8], n: usize) -> usize
-    requires { at + length (counted word.now n) ≤ length out.old }
-    ensures { Written out.old at (counted word.now n) out.new result }
-{
-    let next = write_bytes(out, at, word);
-    write_number(out, next, n)
+// A line of one of the programs; beside each, what it may look like.
+#[derive(Clone, Copy, Debug, PartialEq, Eq)]
+pub enum Line {
+    // "safe rows 3"
+    Safe(usize),
+    // "unsafe rows 4 steps 3"
+    Unsafe {
+        rows: usize,
+        steps: usize,
+    },
+    // "rows full at 1 1"
+    RowsFull {
+        row: usize,
+        transition: usize,
+    },
+    // "atoms full at 24 0"
+    AtomsFull {
+        row: usize,
+        transition: usize,
+    },
+    // "refused 1 at 0"
+    Refused {
+        number: usize,
+        place: usize,
+    },
+    // "too long"
+    TooLong,
+    // "list bytes 23"
+    ListBytes(usize),
+    // "accepted"
+    Accepted,
+    // "no start"
+    NoStart,
+    // "bad row 2"
+    BadRow(usize),
+    // "not closed 1 1"
+    NotClosed {
+        row: usize,
+        transition: usize,
+    },
+    // "reaches bad 3"
+    ReachesBad(usize),
+    // "stuck 2"
+    Stuck(usize),
+    // "ends elsewhere 1"
+    Elsewhere(usize),
+    // "no run at line 3"
+    NoRun(usize),
+    // "refused 4 input 1 at 7"
+    InputRefused {
+        number: usize,
+        input: usize,
+        place: usize,
+    },
+    // "table too long"
+    LongTable,
+    // "list too long"
+    LongList,
+    // "run too long"
+    LongRun,
 }
 
-// Writes a line of a word and a number. Inner.
-pub fn one_line(out: &mut [u8], at: usize, word: &[u8], n: usize) -> usize
-    requires { at + length (one_line word.now n) ≤ length out.old }
-    ensures { Written out.old at (one_line word.now n) out.new result }
+// Writes a line of texts, each with a number behind it. Inner.
+pub fn write_line(out: &mut [u8], at: usize, parts: &[(&str, usize)]) -> usize
+    requires { at + length (line_of parts.now) ≤ length out.old }
+    ensures { Written out.old at (line_of parts.now) out.new result }
 {
-    let end = write_counted(out, at, word, n);
+    let mut end = at;
+    for (text, n) in parts {
+        end = write_bytes(out, end, text.as_bytes());
+        end = write_number(out, end, *n);
+    }
     write_bytes(out, end, b"\n")
 }
 
-// Writes a line of a word, a number, a second word and a second number. Inner.
-pub fn two_line(out: &mut [u8], at: usize, first: &[u8], a: usize, second: &[u8], b: usize) -> usize
-    requires { at + length (two_line first.now a second.now b) ≤ length out.old }
-    ensures { Written out.old at (two_line first.now a second.now b) out.new result }
-{
-    let next = write_counted(out, at, first, a);
-    let end = write_counted(out, next, second, b);
-    write_bytes(out, end, b"\n")
+impl Line {
+    // Writes the line. Inner.
+    pub fn write(self, out: &mut [u8], at: usize) -> usize
+        requires { at + length (text_of self) ≤ length out.old }
+        ensures { Written out.old at (text_of self) out.new result }
+    {
+        match self {
+            Line::Safe(rows) => write_line(out, at, &[("safe rows ", rows)]),
+            Line::Unsafe { rows, steps } => {
+                write_line(out, at, &[("unsafe rows ", rows), (" steps ", steps)])
+            }
+            Line::RowsFull { row, transition } => {
+                write_line(out, at, &[("rows full at ", row), (" ", transition)])
+            }
+            Line::AtomsFull { row, transition } => {
+                write_line(out, at, &[("atoms full at ", row), (" ", transition)])
+            }
+            Line::Refused { number, place } => {
+                write_line(out, at, &[("refused ", number), (" at ", place)])
+            }
+            Line::TooLong => write_bytes(out, at, b"too long\n"),
+            Line::ListBytes(bytes) => write_line(out, at, &[("list bytes ", bytes)]),
+            Line::Accepted => write_bytes(out, at, b"accepted\n"),
+            Line::NoStart => write_bytes(out, at, b"no start\n"),
+            Line::BadRow(row) => write_line(out, at, &[("bad row ", row)]),
+            Line::NotClosed { row, transition } => {
+                write_line(out, at, &[("not closed ", row), (" ", transition)])
+            }
+            Line::ReachesBad(steps) => write_line(out, at, &[("reaches bad ", steps)]),
+            Line::Stuck(step) => write_line(out, at, &[("stuck ", step)]),
+            Line::Elsewhere(state) => write_line(out, at, &[("ends elsewhere ", state)]),
+            Line::NoRun(line) => write_line(out, at, &[("no run at line ", line)]),
+            Line::InputRefused {
+                number,
+                input,
+                place,
+            } => write_line(
+                out,
+                at,
+                &[("refused ", number), (" input ", input), (" at ", place)],
+            ),
+            Line::LongTable => write_bytes(out, at, b"table too long\n"),
+            Line::LongList => write_bytes(out, at, b"list too long\n"),
+            Line::LongRun => write_bytes(out, at, b"run too long\n"),
+        }
+    }
 }
 
-// Writes a line of three words, each with a number behind it. Inner.
-pub fn three_line(
-    out: &mut [u8],
-    at: usize,
-    first: &[u8],
-    a: usize,
-    second: &[u8],
-    b: usize,
-    third: &[u8],
-    c: usize,
-) -> usize
-    requires { at + length (three_line first.now a second.now b third.now c) ≤ length out.old }
-    ensures { Written out.old at (three_line first.now a second.now b third.now c) out.new result }
-{
-    let next = write_counted(out, at, first, a);
-    let last = write_counted(out, next, second, b);
-    let end = write_counted(out, last, third, c);
-    write_bytes(out, end, b"\n")
-}
-
-// "safe rows 3". Inner.
-pub fn safe_line(out: &mut [u8], at: usize, rows: usize) -> usize
-    requires { at + length (safe_line rows) ≤ length out.old }
-    ensures { Written out.old at (safe_line rows) out.new result }
-{
-    one_line(out, at, b"safe rows ", rows)
-}
-
-// "unsafe rows 4 steps 3". Inner.
-pub fn unsafe_line(out: &mut [u8], at: usize, rows: usize, steps: usize) -> usize
-    requires { at + length (unsafe_line rows steps) ≤ length out.old }
-    ensures { Written out.old at (unsafe_line rows steps) out.new result }
-{
-    two_line(out, at, b"unsafe rows ", rows, b" steps ", steps)
-}
-
-// "rows full at 1 1". Inner.
-pub fn rows_full_line(out: &mut [u8], at: usize, row: usize, transition: usize) -> usize
-    requires { at + length (rows_full_line row transition) ≤ length out.old }
-    ensures { Written out.old at (rows_full_line row transition) out.new result }
-{
-    two_line(out, at, b"rows full at ", row, b" ", transition)
-}
-
-// "atoms full at 24 0". Inner.
-pub fn atoms_full_line(out: &mut [u8], at: usize, row: usize, transition: usize) -> usize
-    requires { at + length (atoms_full_line row transition) ≤ length out.old }
-    ensures { Written out.old at (atoms_full_line row transition) out.new result }
-{
-    two_line(out, at, b"atoms full at ", row, b" ", transition)
-}
-
-// "refused 1 at 0". Inner.
-pub fn refused_line(out: &mut [u8], at: usize, number: usize, place: usize) -> usize
-    requires { at + length (refused_line number place) ≤ length out.old }
-    ensures { Written out.old at (refused_line number place) out.new result }
-{
-    two_line(out, at, b"refused ", number, b" at ", place)
-}
-
-// The line of a table's refusal, for a fault of the record that starts at a place: at most 60 bytes. Inner.
-pub fn fault_line(out: &mut [u8], at: usize, fault: Fault, start: usize) -> usize
+// The line of a table's refusal: at most 60 bytes. Inner.
+pub fn fault_line(out: &mut [u8], at: usize, refusal: Refusal) -> usize
     requires { at + 60 ≤ length out.old }
-    ensures { Written out.old at (refused_line (number_of fault) (place_of fault start)) out.new result }
+    ensures { Written out.old at (refused_line (number_of refusal.fault) (place_of refusal.fault refusal.at)) out.new result }
 {
-    let number = number_of(fault) as usize;
-    let place = place_of(fault, start);
-    refused_line(out, at, number, place)
+    let number = u64::from(refusal.fault) as usize;
+    let place = refusal.place();
+    Line::Refused { number, place }.write(out, at)
 }
 
-// "too long". Inner.
-pub fn too_long_line(out: &mut [u8], at: usize) -> usize
-    requires { at + length too_long_line ≤ length out.old }
-    ensures { Written out.old at too_long_line out.new result }
+// The line of a refusal of an input: at most 80 bytes. Inner.
+pub fn input_fault_line(out: &mut [u8], at: usize, refusal: Refusal, input: usize) -> usize
+    requires { at + 80 ≤ length out.old }
+    ensures { Written out.old at (refusal_line (number_of refusal.fault) input (place_of refusal.fault refusal.at)) out.new result }
 {
-    write_bytes(out, at, b"too long\n")
+    let number = u64::from(refusal.fault) as usize;
+    let place = refusal.place();
+    Line::InputRefused {
+        number,
+        input,
+        place,
+    }
+    .write(out, at)
 }

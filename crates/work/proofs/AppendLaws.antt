@@ -1,11 +1,5 @@
 -- A row appended, channel by channel, and what the words hold then.
-use mathlib.Core.Path.{◌≡◌, refl, sym, ap, ◌∙◌}
-use mathlib.Core.Logic.{◌⊎◌, inl, inr}
-use mathlib.Core.List.{List, [], ◌∷◌, ◌++◌}
-use Prim.Native.Nat.{ℕ, zero, suc, ◌+◌, ◌*◌, ◌<◌, ◌≤◌}
-use native.Mathlib.Numerals.{add-one}
-use native.Mathlib.Omega.{arith}
-use lib.ListN.{length, replicate, length-append}
+use Rattle.std.proofs.Common.{◌≡◌, refl, sym, ap, ◌∙◌, ◌⊎◌, inl, inr, List, [], ◌∷◌, ◌++◌, ℕ, zero, suc, ◌+◌, ◌*◌, ◌<◌, ◌≤◌, add-one, arith, length, replicate, take, drop, length-append}
 use Rattle.common.specs.Choice.{if_eq}
 use Rattle.common.specs.Front.{front}
 use Rattle.common.specs.Part.{part}
@@ -20,15 +14,17 @@ use Rattle.meaning.proofs.PutLaws.{put_same, put_other, put-each, put_id}
 use Rattle.work.specs.Layout.{Stored, channel_words, channels_words, row_words, all_words, count_place, Narrow, NarrowRows, Holds, start_stored}
 use Rattle.work.specs.Append.{appended, next_channel, next_channels, next_row}
 use Rattle.work.proofs.LayoutLaws.{channel-length, all-length, all_snoc, held-words}
+use Rattle.work.proofs.WritingLaws.{part_cleared}
+use borrow.Rule.Slice.PartMut.{put_mid}
 
 -- ---- row 0
 
-pub started : (l l₁ l₂ : List ℕ) (s : ℕ) → 103 ≤ length l → l₁ ≡ put_at l 0 (s ∷ 65535 ∷ 65535 ∷ []) → l₂ ≡ put_at l₁ 3 (replicate 100 0)
-    → l₂ ≡ front (all_words (start_stored s ∷ [])) l
+pub started : (l l₁ zs : List ℕ) (s : ℕ) → 103 ≤ length l → l₁ ≡ put_at l 0 (s ∷ 65535 ∷ 65535 ∷ []) → zs ≡ replicate (length (take 100 (drop 3 l₁))) 0
+    → put_mid 3 100 l₁ zs ≡ front (all_words (start_stored s ∷ [])) l
 unfolding all_words row_words channels_words channel_words
-started l l₁ l₂ s h e₁ e₂ =
-    e₂ ∙ ap (λ (x : List ℕ). put_at x 3 (replicate 100 0)) e₁ ∙ put_then l 0 (s ∷ 65535 ∷ 65535 ∷ []) 3 (replicate 100 0) refl (omega arith)
-    ∙ put_first l ((s ∷ 65535 ∷ 65535 ∷ []) ++ replicate 100 0)
+started l l₁ zs s h e₁ e₂ =
+    part_cleared l₁ zs 3 100 (rw e₁ (omega (arith, put-length l 0 (s ∷ 65535 ∷ 65535 ∷ []) (omega arith)))) e₂ ∙ ap (λ (x : List ℕ). put_at x 3 (replicate 100 0)) e₁
+    ∙ put_then l 0 (s ∷ 65535 ∷ 65535 ∷ []) 3 (replicate 100 0) refl (omega arith) ∙ put_first l ((s ∷ 65535 ∷ 65535 ∷ []) ++ replicate 100 0)
 
 pub start-narrow : (s : ℕ) → NarrowRows (start_stored s ∷ [])
 start-narrow s = (λ c. omega arith, tt)
@@ -67,10 +63,6 @@ next-kept l a xs d i c q k e h m =
     ap (λ (x : List ℕ). if_eq k c (channel_words q) x)
     (ap (part (count_place i k) (count_place i k + 25)) e ∙ put-before l a xs (count_place i k) (count_place i k + 25) h m)
 
--- The first words of a product are no more than they are counted.
-pub short : (n : ℕ) (p : List ℕ) → n ≤ 24 → n ≤ length p → length (part 0 n p) ≤ 24
-short n p h k = omega (arith, part_length 0 n p k)
-
 -- ---- the loop over the channels: k of them are written from place a on, and d is what stands there
 
 pub record Appending (l : List ℕ) (a i c : ℕ) (q d : List ℕ) (k : ℕ) : Type 0 where
@@ -106,11 +98,6 @@ appending-on l a i c q d r k w h b f g e =
         ap (put_at d (a + 25 * k)) (next-kept l a xs d i c q k w.holds (omega arith) (omega arith))
         ∙ ap (λ (x : List ℕ). put_at x (a + 25 * k) new) w.holds ∙ put_then l a xs (a + 25 * k) new (omega (arith, n)) (omega arith)
 
-pub appending-ends : (l : List ℕ) (a i c : ℕ) (q d : List ℕ) (k : ℕ) → Appending l a i c q d k → 4 ≤ k → d ≡ put_at l a (next_channels 4 l i c q)
-appending-ends l a i c q d k w h =
-    let e : k ≡ 4 = omega (arith, w.high) in
-    w.holds ∙ ap (λ (j : ℕ). put_at l a (next_channels j l i c q)) e
-
 -- ---- the row, behind the rows that are there
 
 nexts-kept : (n : ℕ) (l : List ℕ) (a : ℕ) (xs d : List ℕ) (i c : ℕ) (q : List ℕ) → d ≡ put_at l a xs → count_place i n ≤ a → a ≤ length l
@@ -121,12 +108,12 @@ nexts-kept (suc n) l a xs d i c q e h m =
     ap (λ (x : List ℕ). x ++ next_channel d i c q n) (nexts-kept n l a xs d i c q e (omega arith) m)
     ∙ ap (λ (x : List ℕ). next_channels n l i c q ++ x) (next-kept l a xs d i c q n e (omega arith) m)
 
-pub row_written : (l d r : List ℕ) (a s i v m c : ℕ) (q : List ℕ) → 103 * i + 103 ≤ a → a + 103 ≤ length l → v ≡ i → d ≡ put_at l a (s ∷ v ∷ m ∷ [])
+pub row_written : (l d r : List ℕ) (a s i m c : ℕ) (q : List ℕ) → 103 * i + 103 ≤ a → a + 103 ≤ length l → d ≡ put_at l a (s ∷ i ∷ m ∷ [])
     → r ≡ put_at d (a + 3) (next_channels 4 d i c q) → r ≡ put_at l a (next_row l s i m c q)
 unfolding next_row
-row_written l d r a s i v m c q b f e g h =
-    h ∙ ap (put_at d (a + 3)) (nexts-kept 4 l a (s ∷ v ∷ m ∷ []) d i c q g (omega arith) (omega arith))
-    ∙ ap (λ (x : List ℕ). put_at x (a + 3) (next_channels 4 l i c q)) (g ∙ ap (λ (x : ℕ). put_at l a (s ∷ x ∷ m ∷ [])) e)
+row_written l d r a s i m c q b f g h =
+    h ∙ ap (put_at d (a + 3)) (nexts-kept 4 l a (s ∷ i ∷ m ∷ []) d i c q g (omega arith) (omega arith))
+    ∙ ap (λ (x : List ℕ). put_at x (a + 3) (next_channels 4 l i c q)) g
     ∙ put_then l a (s ∷ i ∷ m ∷ []) (a + 3) (next_channels 4 l i c q) refl (omega arith)
 
 -- ---- what the words hold then

@@ -1,16 +1,13 @@
 -- What stands where, in words that hold rows.
-use mathlib.Core.Path.{◌≡◌, refl, sym, ap, subst, ◌∙◌}
-use mathlib.Core.Logic.{◌⊎◌, inl, inr}
-use mathlib.Core.List.{List, [], ◌∷◌, ◌++◌, append-nil, append_assoc}
-use mathlib.Core.Option.{none-ne-some, some-injective}
-use Prim.Native.Nat.{ℕ, zero, suc, ◌+◌, ◌*◌, ◌<◌, ◌≤◌}
-use native.Mathlib.Nat.{eq-or-lt_of_le}
-use native.Mathlib.Omega.{arith}
-use lib.ListN.{length, get_or, length-append, length-replicate}
+use Rattle.std.proofs.Common.{◌≡◌, refl, sym, ap, subst, ◌∙◌, ◌⊎◌, inl, inr, List, [], ◌∷◌, ◌++◌, append-nil, append_assoc, ℕ, zero, suc, ◌+◌, ◌*◌, ◌<◌, ◌≤◌, eq-or-lt_of_le, arith, length, get_or, length-append}
+use Rattle.std.proofs.Math.Option.{none-ne-some, some-injective}
+use Rattle.std.proofs.Math.ListN.{length-replicate}
 use Rattle.common.specs.Part.{part}
 use Rattle.common.proofs.AtLaws.{At}
 use Rattle.common.proofs.EachLaws.{each_at}
 use Rattle.common.proofs.StandLaws.{Stands, stands-first, stands-behind, stands-in, stands-front, stands-inside, stands-get, stands-part}
+use Rattle.std.specs.List.{between}
+use Rattle.common.proofs.CopyLaws.{part-range}
 use Rattle.work.specs.Layout.{Stored, channel_words, channels_words, row_words, all_words, count_place, atoms_place, Narrow, NarrowRows, Holds}
 
 pub channel-length : (p : List ℕ) → length p ≤ 24 → length (channel_words p) ≡ 25
@@ -58,6 +55,11 @@ row-stands (d ∷ l) zero e h a = rw (sym (some-injective _ _ a)) (stands-first 
 row-stands (d ∷ l) (suc i) e h a =
     subst (λ (n : ℕ). Stands (row_words d ++ all_words l) n (row_words e)) (omega arith)
     (stands-in (stands-behind (row_words d) (all_words l) 103 (row-length d h.0)) (row-stands l i e h.1 a))
+
+-- The atoms behind a channel's count.
+pub product-place : (w : List ℕ) (i c f k : ℕ) → f ≡ count_place i c → k ≡ get_or w (count_place i c) 0
+    → between (f + 1) (f + 1 + k) w ≡ part (atoms_place i c) (atoms_place i c + get_or w (count_place i c) 0) w
+product-place w i c f k e h = let m : f + 1 ≡ atoms_place i c = omega arith in rw (m, h) (part-range _ _ w)
 
 -- In words that hold the rows l, row i is e.
 module _ (w : List ℕ) (l : List Stored) (z : List ℕ) (i : ℕ) (e : Stored) (h : Holds w l z) (n : NarrowRows l) (a : At l i e) where

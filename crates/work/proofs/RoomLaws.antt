@@ -1,9 +1,6 @@
 -- The rows that there is room for fit, and one does if 103 words are there.
-use mathlib.Core.Path.{◌≡◌, refl, subst}
-use mathlib.Core.Logic.{◌⊎◌, inl, inr}
-use Prim.Native.Nat.{ℕ, ◌/◌, ◌*◌, ◌<◌, ◌≤◌}
-use native.Mathlib.Nat.{mul-div-le, le-div_iff_mul-le}
-use native.Mathlib.Omega.{arith}
+use Rattle.std.proofs.Common.{◌≡◌, refl, subst, ◌⊎◌, inl, inr, ℕ, ◌/◌, ◌*◌, ◌<◌, ◌≤◌, le-div_iff_mul-le, arith}
+use Rattle.std.proofs.Math.Nat.{mul-div-le}
 use Rattle.common.proofs.ChoiceLaws.{lt-cases}
 use Rattle.work.specs.Room.{room_of}
 

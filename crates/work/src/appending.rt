@@ -1,70 +1,62 @@
 // Rows appended to the work table. All functions here are inner.
 ghost use Rattle.std.specs.Prelude.{◌≡◌, [], ◌∷◌, ◌+◌, ◌*◌, ◌≤◌, ◌<◌, length};
 ghost use Rattle.common.specs.Front.{front};
-ghost use Rattle.common.specs.Part.{part};
 ghost use Rattle.common.specs.Store.{put_at};
 ghost use Rattle.work.specs.Layout.{all_words, start_stored, count_place};
 ghost use Rattle.work.specs.Append.{next_channel, next_channels, next_row};
 
-use crate::writing::{clear_places, copy_channel, word, write_channel, write_head};
+use crate::places::{CHANNEL, CHANNELS, HEAD, ROW, count_place};
+use crate::writing::{Head, write_channel, write_head};
+use rows::Outcome;
 
-// Writes row 0: the start with empty products. Inner.
+// Writes row 0: the start with empty products, made from no row by no transition. Inner.
 pub fn start_row(w: &mut [u16], state: u16)
     requires { 103 ≤ length w.old }
     ensures { w.new ≡ front (all_words (start_stored state ∷ [])) w.old }
 {
-    write_head(w, 0, state, 65535, 65535);
-    clear_places(w, 3, 100);
+    let head = Head {
+        state,
+        parent: u16::MAX,
+        transition: u16::MAX,
+    };
+    write_head(w, 0, head);
+    w[HEAD..ROW].fill(0);
 }
 
-// Writes channel c of a new row: the first n words of product if it is the channel that changes, else those of row parent. Inner.
-fn next_channel(
-    w: &mut [u16],
-    parent: usize,
-    c: usize,
-    to: usize,
-    channel: usize,
-    product: &[u16],
-    n: usize,
-)
-    requires { (count_place parent c + 25 ≤ to) × (to + 25 ≤ length w.old) × (n ≤ 24) × (n ≤ length product.now) }
-    ensures { w.new ≡ put_at w.old to (next_channel w.old parent channel (part 0 n product.now) c) }
+// Writes channel c of a new row, the outcome's: the product if it is the channel that changes, else what the row has that the outcome comes from. Inner.
+fn next_channel(w: &mut [u16], c: usize, to: usize, outcome: &Outcome)
+    requires { (count_place outcome.now.source_row c + 25 ≤ to) × (to + 25 ≤ length w.old) × (length outcome.now.product.now ≤ 24) }
+    ensures { w.new ≡ put_at w.old to (next_channel w.old outcome.now.source_row outcome.now.channel outcome.now.product.now c) }
 {
-    if c == channel {
-        write_channel(w, to, product, n);
+    if c == outcome.channel {
+        write_channel(w, to, outcome.product);
     } else {
-        copy_channel(w, 103 * parent + 3 + 25 * c, to);
+        let from = count_place(outcome.source_row, c);
+        w.copy_within(from..from + CHANNEL, to);
     }
 }
 
-// Writes the four channels of a new row from `to` on, behind row parent. Inner.
-fn next_channels(w: &mut [u16], parent: usize, to: usize, channel: usize, product: &[u16], n: usize)
-    requires { (103 * parent + 103 ≤ to) × (to + 100 ≤ length w.old) × (n ≤ 24) × (n ≤ length product.now) }
-    ensures { w.new ≡ put_at w.old to (next_channels 4 w.old parent channel (part 0 n product.now)) }
+// Writes the channels of a new row from `to` on, behind the row that the outcome comes from. Inner.
+fn next_channels(w: &mut [u16], to: usize, outcome: &Outcome)
+    requires { (103 * outcome.now.source_row + 103 ≤ to) × (to + 100 ≤ length w.old) × (length outcome.now.product.now ≤ 24) }
+    ensures { w.new ≡ put_at w.old to (next_channels 4 w.old outcome.now.source_row outcome.now.channel outcome.now.product.now) }
 {
-    let mut c = 0;
-    while c < 4 {
-        next_channel(w, parent, c, to + 25 * c, channel, product, n);
-        c += 1;
+    for c in 0..CHANNELS {
+        next_channel(w, c, to + CHANNEL * c, outcome);
     }
 }
 
-// Appends a row behind the first `rows`: its products are those of row parent, but at `channel` the first n words of product. Channel 4
-// with n = 0 changes none. Inner.
-pub fn append_row(
-    w: &mut [u16],
-    rows: usize,
-    state: u16,
-    parent: usize,
-    transition: u16,
-    channel: usize,
-    product: &[u16],
-    n: usize,
-)
-    requires { (103 * rows + 103 ≤ length w.old) × (rows ≤ 1024) × (parent < rows) × (n ≤ 24) × (n ≤ length product.now) }
-    ensures { w.new ≡ put_at w.old (103 * rows) (next_row w.old state parent transition channel (part 0 n product.now)) }
+// Appends the outcome of a transition behind the first `rows` rows. Inner.
+pub fn append_row(w: &mut [u16], rows: usize, outcome: &Outcome, transition: u16)
+    requires { (103 * rows + 103 ≤ length w.old) × (rows ≤ 1024) × (outcome.now.source_row < rows) × (outcome.now.target < 65536) × (length outcome.now.product.now ≤ 24) }
+    ensures { w.new ≡ put_at w.old (103 * rows) (next_row w.old outcome.now.target outcome.now.source_row transition outcome.now.channel outcome.now.product.now) }
 {
-    let at = 103 * rows;
-    write_head(w, at, state, word(parent), transition);
-    next_channels(w, parent, at + 3, channel, product, n);
+    let at = ROW * rows;
+    let head = Head {
+        state: outcome.target as u16,
+        parent: outcome.source_row as u16,
+        transition,
+    };
+    write_head(w, at, head);
+    next_channels(w, at + HEAD, outcome);
 }

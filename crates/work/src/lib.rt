@@ -2,5 +2,6 @@
 #![tactic(auto)]
 
 pub mod appending;
+pub mod places;
 pub mod reading;
 pub mod writing;

@@ -1,22 +1,17 @@
 // The words of a row, read where they stand. All functions here are inner.
-ghost use Rattle.std.specs.Prelude.{◌≡◌, ◌+◌, ◌*◌, ◌<◌, length, get_or};
-ghost use Rattle.work.specs.Layout.{count_place};
+ghost use Rattle.std.specs.Prelude.{◌≡◌, ◌+◌, ◌*◌, ◌<◌, ◌≤◌, length, get_or};
+ghost use Rattle.common.specs.Part.{part};
+ghost use Rattle.work.specs.Layout.{atoms_place, count_place};
 ghost use Rattle.work.specs.Room.{room_of};
 
-// A word as a number. Inner.
-fn widen(x: u16) -> usize
-    ensures { result ≡ x }
-{
-    x as usize
-}
+use crate::places::{ROW, ROWS, count_place};
 
 // The state of row i. Inner.
 pub fn state_of(w: &[u16], i: usize) -> usize
     requires { 103 * i < length w.now }
     ensures { result ≡ get_or w.now (103 * i) 0 }
 {
-    let at = 103 * i;
-    widen(w[at])
+    usize::from(w[ROW * i])
 }
 
 // The parent of row i. Inner.
@@ -24,8 +19,7 @@ pub fn parent_of(w: &[u16], i: usize) -> usize
     requires { 103 * i + 1 < length w.now }
     ensures { result ≡ get_or w.now (103 * i + 1) 0 }
 {
-    let at = 103 * i + 1;
-    widen(w[at])
+    usize::from(w[ROW * i + 1])
 }
 
 // The transition that led to row i. Inner.
@@ -33,8 +27,7 @@ pub fn move_of(w: &[u16], i: usize) -> usize
     requires { 103 * i + 2 < length w.now }
     ensures { result ≡ get_or w.now (103 * i + 2) 0 }
 {
-    let at = 103 * i + 2;
-    widen(w[at])
+    usize::from(w[ROW * i + 2])
 }
 
 // How many atoms channel c of row i has. Inner.
@@ -42,17 +35,21 @@ pub fn count_of(w: &[u16], i: usize, c: usize) -> usize
     requires { count_place i c < length w.now }
     ensures { result ≡ get_or w.now (count_place i c) 0 }
 {
-    let at = 103 * i + 3 + 25 * c;
-    widen(w[at])
+    usize::from(w[count_place(i, c)])
+}
+
+// The atoms of channel c of row i, where they stand. Inner.
+pub fn product_of(w: &[u16], i: usize, c: usize) -> &[u16]
+    requires { atoms_place i c + get_or w.now (count_place i c) 0 ≤ length w.now }
+    ensures { result.now ≡ part (atoms_place i c) (atoms_place i c + get_or w.now (count_place i c) 0) w.now }
+{
+    let first = count_place(i, c) + 1;
+    &w[first..first + count_of(w, i, c)]
 }
 
 // The whole rows that fit into this many words, at most 1,024. Inner.
 pub fn room_of(words: usize) -> usize
     ensures { result ≡ room_of words }
 {
-    let rows = words / 103;
-    if rows < 1024 {
-        return rows;
-    }
-    1024
+    (words / ROW).min(ROWS)
 }

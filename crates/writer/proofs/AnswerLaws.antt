@@ -1,10 +1,6 @@
 -- One answer and one content of the list's bytes for each input.
-use mathlib.Core.Path.{◌≡◌, sym, ap, ◌∙◌}
-use mathlib.Core.List.{List}
-use Prim.Native.Nat.{ℕ}
-use lib.ListN.{length}
-use Rattle.writer.specs.Writing.{written, bytes_of, left_by}
-use Rattle.writer.specs.declared.calls.Written.{Written}
+use Rattle.std.proofs.Common.{◌≡◌, sym, ap, ◌∙◌, List, ℕ, length}
+use Rattle.writer.specs.Writing.{Written, written, bytes_of, left_by}
 
 -- Two calls that keep the promise of write_list answer the same and leave the same.
 pub one_answer : (t w : List ℕ) (rows size : ℕ) (r r' : Written) → r ≡ written t w rows size → r' ≡ written t w rows size → r ≡ r'

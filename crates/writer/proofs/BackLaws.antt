@@ -1,22 +1,12 @@
 -- What is written is read back: as the rows that the words tell, and those are the rows that the work table holds.
-use mathlib.Core.Path.{◌≡◌, refl, sym, ap, fun_ext, ◌∙◌}
-use mathlib.Core.Bool.{true, false}
-use mathlib.Core.Logic.{◌⊎◌, inl, inr}
-use mathlib.Core.List.{List, [], ◌∷◌, map}
-use mathlib.Core.Option.{Option, none, some}
-use Prim.Native.Nat.{ℕ, zero, suc, ◌+◌, ◌*◌, ◌<◌, ◌≤◌}
-use native.Mathlib.Omega.{arith}
-use lib.ListN.{length, get_or}
-use lib.Dec.{ltb}
-use borrow.Author.Tests.{ltb-true, ltb-false}
+use Rattle.std.proofs.Common.{◌≡◌, refl, sym, ap, ◌∙◌, true, false, ◌⊎◌, inl, inr, List, [], ◌∷◌, map, Option, ℕ, suc, ◌+◌, ◌*◌, ◌<◌, ◌≤◌, arith, length, get_or, ltb, ltb-true, ltb-false, Some, None, Ok, Err}
+use mathlib.Core.Path.{fun_ext}
 use Rattle.common.specs.Choice.{if_lt}
 use Rattle.common.specs.Each.{Each}
-use Rattle.common.specs.Part.{part}
 use Rattle.common.proofs.AtLaws.{At}
 use Rattle.common.proofs.BoolLaws.{either}
 use Rattle.common.proofs.ChoiceLaws.{lt-then, lt-else, lt-cases}
 use Rattle.common.proofs.EachLaws.{each_at}
-use Rattle.common.proofs.PartLaws.{part_none, part-cons}
 use Rattle.rows.specs.Rows.{RowOf}
 use Rattle.table.specs.Listing.{listed}
 use Rattle.table.proofs.ListingLaws.{listed-length}
@@ -27,69 +17,59 @@ use Rattle.work.proofs.RoomLaws.{room-few}
 use Rattle.work.proofs.LayoutLaws.{held-state, held-count, held-atoms, held-inside}
 use Rattle.lists.specs.Reading.{check_list, rows_of}
 use Rattle.lists.proofs.BackLaws.{written-good, written_back}
-use Rattle.lists.specs.declared.reading.ListChecked.TheVariants.{Good}
-use Rattle.writer.specs.Words.{word_from, count_in, product_in, row_in, rows_in}
+use Rattle.writer.specs.Words.{count_in, product_in, row_in, rows_in}
 use Rattle.writer.specs.Fitting.{first_not, row_passes}
-use Rattle.writer.specs.Writing.{bytes_for, after_look, written_for}
+use Rattle.writer.specs.Writing.{Written, bytes_for, after_look, written_for}
 use Rattle.writer.proofs.FitLaws.{all_fit}
-use Rattle.writer.specs.declared.calls.Written.TheVariants.{BadRow, TooSmall, Bytes}
+use Rattle.writer.proofs.WordLaws.{listed-part}
+use Rattle.writer.specs.declared.calls.Refused.TheVariants.{BadRow, TooSmall}
 
 -- ---- a list that was written
 
 pub record WrittenBack (s : Shape) (w : List ℕ) (rows n : ℕ) : Type 0 where
   pub length_is : n ≡ length (bytes_for s w rows)
-  pub good : check_list s (bytes_for s w rows) ≡ Good rows
+  pub good : check_list s (bytes_for s w rows) ≡ Ok rows
   pub back : rows_of s (bytes_for s w rows) ≡ rows_in s.channels w rows
 
-back-of : (s : Shape) (w : List ℕ) (rows n : ℕ) → n ≡ length (bytes_for s w rows) → rows ≤ 1024 → first_not (row_passes s w) rows 0 ≡ none → WrittenBack s w rows n
+back-of : (s : Shape) (w : List ℕ) (rows n : ℕ) → n ≡ length (bytes_for s w rows) → rows ≤ 1024 → first_not (row_passes s w) rows 0 ≡ None → WrittenBack s w rows n
 back-of s w rows n d few e =
     let l : length (rows_in s.channels w rows) ≡ rows = listed-length (row_in s.channels w) rows 0 in
     let fits = all_fit s w rows e in
     record {
       length_is = d;
-      good = written-good s (rows_in s.channels w rows) fits (omega arith) ∙ ap Good l;
+      good = written-good s (rows_in s.channels w rows) fits (omega arith) ∙ ap Ok l;
       back = written_back s (rows_in s.channels w rows) fits (omega arith);
     }
 
 -- Where the writer answers that it wrote n bytes, they are a good list, and reading them gives the rows back.
-pub written-for-back : (s : Shape) (w : List ℕ) (rows size n : ℕ) → written_for s w rows size ≡ Bytes n → WrittenBack s w rows n
+pub written-for-back : (s : Shape) (w : List ℕ) (rows size n : ℕ) → written_for s w rows size ≡ Ok n → WrittenBack s w rows n
 unfolding written_for
 written-for-back s w rows size n e = room (lt-cases _ _ _ _ e)
   where
-    no_bytes : {i : ℕ} → BadRow i ≡ Bytes n → WrittenBack s w rows n
+    no_bytes : {i : ℕ} → Err (BadRow i) ≡ Ok n → WrittenBack s w rows n
     no_bytes d = absurd (let z : ◌≡◌ {A = ℕ} 0 1 = cc in omega arith)
 
-    no-small : {i : ℕ} → TooSmall i ≡ Bytes n → WrittenBack s w rows n
+    no-small : {i : ℕ} → Err (TooSmall i) ≡ Ok n → WrittenBack s w rows n
     no-small d = absurd (let z : ◌≡◌ {A = ℕ} 0 1 = cc in omega arith)
 
-    same_bytes : {i : ℕ} → Bytes i ≡ Bytes n → i ≡ n
+    same_bytes : {i : ℕ} → ◌≡◌ {A = Written} (Ok i) (Ok n) → i ≡ n
     same_bytes d = cc
 
-    size_of : {i : ℕ} → rows ≤ 1024 → first_not (row_passes s w) rows 0 ≡ none → i ≡ length (bytes_for s w rows)
-        → ((size < i) × (TooSmall i ≡ Bytes n)) ⊎ ((i ≤ size) × (Bytes i ≡ Bytes n)) → WrittenBack s w rows n
+    size_of : {i : ℕ} → rows ≤ 1024 → first_not (row_passes s w) rows 0 ≡ None → i ≡ length (bytes_for s w rows)
+        → ((size < i) × (Err (TooSmall i) ≡ Ok n)) ⊎ ((i ≤ size) × (◌≡◌ {A = Written} (Ok i) (Ok n))) → WrittenBack s w rows n
     size_of few q k (inl c) = no-small c.1
     size_of few q k (inr c) = back-of s w rows n (sym (same_bytes c.1) ∙ k) few q
 
-    look : rows ≤ 1024 → (r : Option ℕ) → first_not (row_passes s w) rows 0 ≡ r → after_look (bytes_for s w rows) size r ≡ Bytes n → WrittenBack s w rows n
-    look few (some i) q d = no_bytes d
-    look few none q d = size_of few q refl (lt-cases _ _ _ _ d)
+    look : rows ≤ 1024 → (r : Option ℕ) → first_not (row_passes s w) rows 0 ≡ r → after_look (bytes_for s w rows) size r ≡ Ok n → WrittenBack s w rows n
+    look few (Some i) q d = no_bytes d
+    look few None q d = size_of few q refl (lt-cases _ _ _ _ d)
 
-    room : ((room_of (length w) < rows) × (BadRow (room_of (length w)) ≡ Bytes n))
-        ⊎ ((rows ≤ room_of (length w)) × (after_look (bytes_for s w rows) size (first_not (row_passes s w) rows 0) ≡ Bytes n)) → WrittenBack s w rows n
+    room : ((room_of (length w) < rows) × (Err (BadRow (room_of (length w))) ≡ Ok n))
+        ⊎ ((rows ≤ room_of (length w)) × (after_look (bytes_for s w rows) size (first_not (row_passes s w) rows 0) ≡ Ok n)) → WrittenBack s w rows n
     room (inl c) = no_bytes c.1
     room (inr c) = look (omega (arith, c.0, room-few (length w))) (first_not (row_passes s w) rows 0) refl c.1
 
 -- ---- a work table that holds rows
-
--- A range of words, listed one by one.
-listed-part : (w : List ℕ) (from k j : ℕ) → from + j + k ≤ length w → listed (word_from w from) k j ≡ part (from + j) (from + j + k) w
-unfolding listed word_from
-listed-part w from zero j h = sym (part_none (from + j) (from + j + 0) w (omega arith))
-listed-part w from (suc k) j h =
-    let a : from + (j + 1) ≡ from + j + 1 = omega arith in
-    let b : from + j + 1 + k ≡ from + j + suc k = omega arith in
-    ap (λ (l : List ℕ). get_or w (from + j) 0 ∷ l) (listed-part w from k (j + 1) (omega arith) ∙ rw (a, b))
-    ∙ sym (part-cons (from + j) (from + j + suc k) w (omega arith) (omega arith))
 
 -- What a function gives at the places of a list.
 listed-map : {A B : Type 0} (f : ℕ → B) (g : A → B) (l : List A) (j : ℕ) → ((i : ℕ) (e : A) → At l i e → f (j + i) ≡ g e) → listed f (length l) j ≡ map g l

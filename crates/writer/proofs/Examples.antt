@@ -1,8 +1,5 @@
 -- Worked examples: the list of example B from its work table, and each refusal.
-use mathlib.Core.Path.{◌≡◌, refl}
-use mathlib.Core.List.{List, [], ◌∷◌, ◌++◌}
-use Prim.Native.Nat.{ℕ}
-use lib.ListN.{set}
+use Rattle.std.proofs.Common.{◌≡◌, refl, List, [], ◌∷◌, ◌++◌, ℕ, set}
 use Rattle.common.specs.Choice.{if_lt, if_eq, if_true}
 use Rattle.atoms.specs.Masks.{atom_test, star, bit}
 use Rattle.reader.specs.Bytes.{number_at}

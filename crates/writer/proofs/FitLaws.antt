@@ -1,18 +1,10 @@
 -- Which rows can be written: the tests, and what a row that passes them is.
-use mathlib.Core.Path.{◌≡◌, refl, sym, ap, subst, ◌∙◌}
-use mathlib.Core.Bool.{Bool, true, false, true≢false}
-use mathlib.Core.Logic.{◌⊎◌, inl, inr}
-use mathlib.Core.List.{List}
-use mathlib.Core.Option.{none}
-use Prim.Native.Nat.{ℕ, zero, suc, ◌+◌, ◌*◌, ◌<◌, ◌≤◌}
-use native.Mathlib.Omega.{arith}
-use lib.ListN.{get_or}
-use lib.Dec.{ltb}
-use borrow.Author.Tests.{ltb-true, ltb-false}
+use Rattle.std.proofs.Common.{◌≡◌, refl, sym, subst, ◌∙◌, Bool, true, false, true≢false, ◌⊎◌, inl, inr, List, ℕ, zero, suc, ◌+◌, ◌*◌, ◌<◌, ◌≤◌, arith, get_or, ltb, ltb-true, ltb-false, None}
+use Rattle.std.specs.List.{list_all}
 use Rattle.common.specs.Each.{Each}
 use Rattle.common.proofs.BoolLaws.{either}
 use Rattle.common.proofs.ChoiceLaws.{lt-then, lt-else}
-use Rattle.atoms.specs.Masks.{AtomOf}
+use Rattle.atoms.specs.Masks.{AtomOf, atom_test}
 use Rattle.atoms.proofs.AtomLaws.{atom-test}
 use Rattle.table.specs.Listing.{listed}
 use Rattle.table.proofs.ListingLaws.{listed-length}
@@ -23,12 +15,11 @@ use Rattle.lists.specs.Format.{RowFits}
 use Rattle.lists.proofs.GoodLaws.{ProductFits}
 use Rattle.writer.specs.Words.{word_from, count_in, product_in, row_in, rows_in, Writable, AllWritable}
 use Rattle.writer.specs.Fitting.{first_not, all_pass, atom_passes, channel_passes, row_passes}
-use Rattle.writer.proofs.TestLaws.{none-not, all-each}
+use Rattle.writer.proofs.TestLaws.{none-not, all-each, all-listed}
 
-pub channel-passes : (messages : ℕ) (w : List ℕ) (i c count : ℕ) (r : Bool) → count ≡ count_in w i c → count ≤ 24 → r ≡ all_pass (atom_passes messages w (atoms_place i c)) count
-    → r ≡ channel_passes messages w i c
-unfolding channel_passes
-channel-passes messages w i c count r e l h = lt-else _ _ _ _ (omega arith) (h ∙ ap (all_pass (atom_passes messages w (atoms_place i c))) e)
+pub channel-passes : (messages : ℕ) (w : List ℕ) (i c : ℕ) (r : Bool) → count_in w i c ≤ 24 → r ≡ list_all (atom_test messages) (product_in w i c) → r ≡ channel_passes messages w i c
+unfolding channel_passes product_in all_pass
+channel-passes messages w i c r l h = lt-else _ _ _ _ l (h ∙ all-listed (atom_test messages) (word_from w (atoms_place i c)) (count_in w i c) 0)
 
 -- A channel that passes: a product of the table.
 channel-fits : (messages : ℕ) (w : List ℕ) (i c : ℕ) → channel_passes messages w i c ≡ true → (count_in w i c ≤ 24) × ProductFits messages (product_in w i c)
@@ -83,7 +74,7 @@ module _ (s : Shape) (w : List ℕ) (i : ℕ) (e : row_passes s w i ≡ true) wh
       }
 
 -- Where no row is found that does not pass.
-module _ (s : Shape) (w : List ℕ) (rows : ℕ) (e : first_not (row_passes s w) rows 0 ≡ none) where
+module _ (s : Shape) (w : List ℕ) (rows : ℕ) (e : first_not (row_passes s w) rows 0 ≡ None) where
   each-passes : (i : ℕ) → i < rows → row_passes s w i ≡ true
   each-passes i l = none-not (row_passes s w) rows 0 e i (omega arith) (omega arith)
 

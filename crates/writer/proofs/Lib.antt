@@ -1,6 +1,7 @@
 -- The laws of the writer.
 pub mod TestLaws
 pub mod ManyLaws
+pub mod WordLaws
 pub mod SizeLaws
 pub mod PlaceLaws
 pub mod FitLaws

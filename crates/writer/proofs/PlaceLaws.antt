@@ -1,71 +1,82 @@
 -- Bytes written from a place on: numbers, atoms, products, rows.
-use mathlib.Core.Path.{◌≡◌, refl, sym, ap, ◌∙◌}
-use mathlib.Core.List.{List, [], ◌∷◌, ◌++◌, append_assoc}
-use Prim.Native.Nat.{ℕ, ◌+◌, ◌*◌, ◌/◌, ◌%◌, ◌<◌, ◌≤◌}
-use native.Mathlib.Nat.{div-lt_iff_lt-mul}
-use native.Mathlib.Omega.{arith}
-use lib.ListN.{length, get_or, set, length-append}
+use Rattle.std.proofs.Common.{◌≡◌, refl, sym, ap, ◌∙◌, List, [], ◌∷◌, ◌++◌, append_assoc, ℕ, ◌+◌, ◌-◌, ◌*◌, ◌/◌, ◌%◌, ◌<◌, ◌≤◌, div-lt_iff_lt-mul, arith, length, get_or, set, length-append, w16, take, drop, drop-drop, mod-eq_of_lt}
+use Rattle.std.specs.Int.{to_le_bytes}
+use borrow.Rule.Slice.PartMut.{put_mid}
 use Rattle.common.specs.Front.{front}
 use Rattle.common.specs.Store.{put_at}
-use Rattle.common.proofs.StoreLaws.{put_one, put_next, put_then, put_first}
+use Rattle.common.proofs.StoreLaws.{put_one, put_then, put_first}
 use Rattle.table.specs.Listing.{listed}
 use Rattle.table.proofs.ListingLaws.{listed-length}
 use Rattle.lists.specs.Format.{joined, number_bytes, product_bytes, payload_bytes, row_bytes, list_bytes}
 use Rattle.lists.proofs.BackLaws.{number-length}
-use Rattle.work.specs.Layout.{atoms_place}
+use Rattle.lists.proofs.RowLaws.{listed-get}
 use Rattle.writer.specs.Words.{word_from, count_in, product_in, row_in, rows_in}
+use Rattle.writer.proofs.WordLaws.{product-many}
 use Rattle.writer.proofs.ManyLaws.{up_to, Placing, placing-starts, placing-room, placing-on, placing-ends}
 use Rattle.writer.proofs.SizeLaws.{numbers-length, product-length, payload-is, payload-length, row-length, list-is}
 
 -- ---- a number
 
-pub high_byte : (n : ℕ) → n < 65536 → n / 256 < 256
+high_byte : (n : ℕ) → n < 65536 → n / 256 < 256
 high_byte n h = (div-lt_iff_lt-mul {k = 256} {x = n} {y = 256} (omega arith)).1 h
 
-pub number-written : (l : List ℕ) (a n x y : ℕ) → x ≡ n % 256 → y ≡ n / 256 → a + 2 ≤ length l → set (set l a x) (a + 1) y ≡ put_at l a (number_bytes n)
+-- A number's two bytes.
+number-is : (n : ℕ) → n < 65536 → to_le_bytes w16 n ≡ number_bytes n
 unfolding number_bytes
-number-written l a n x y e d h =
-    ap (λ (z : List ℕ). set z (a + 1) y) (put_one l a x (omega arith)) ∙ put_next l a (x ∷ []) (a + 1) y refl (omega arith)
-    ∙ ap (λ (u : ℕ). put_at l a (u ∷ y ∷ [])) e ∙ ap (λ (u : ℕ). put_at l a (n % 256 ∷ u ∷ [])) d
+number-is n h = ap (λ (x : ℕ). n % 256 ∷ x ∷ []) (mod-eq_of_lt (high_byte n h))
+
+put-part : (l : List ℕ) (a k : ℕ) (ys : List ℕ) → length ys ≡ k → put_mid a k l ys ≡ put_at l a ys
+unfolding put_at
+put-part l a k ys e =
+    sym (append_assoc (take a l) ys (drop k (drop a l))) ∙ ap (λ (z : List ℕ). take a l ++ ys ++ z) (drop-drop k a l ∙ ap (λ (n : ℕ). drop (a + n) l) (sym e))
+
+pub number-written : (l : List ℕ) (a n : ℕ) (ys : List ℕ) → n < 65536 → ys ≡ to_le_bytes w16 n → put_mid a (a + 2 - a) l ys ≡ put_at l a (number_bytes n)
+number-written l a n ys h e =
+    let d : ys ≡ number_bytes n = e ∙ number-is n h in
+    put-part l a (a + 2 - a) ys (ap length d ∙ number-length n ∙ omega arith) ∙ ap (put_at l a) d
 
 -- ---- atoms
 
 atoms-length : (w : List ℕ) (from k : ℕ) → length (up_to number_bytes (word_from w from) k) ≡ 2 * k
 atoms-length w from k = numbers-length (listed (word_from w from) k 0) ∙ omega (arith, listed-length (word_from w from) k 0)
 
-pub atoms-start : (w : List ℕ) (from count : ℕ) (list : List ℕ) (a : ℕ) → Placing number_bytes (word_from w from) list a count list 0 (a + 2 * 0)
-atoms-start w from count list a = placing-starts number_bytes (word_from w from) list a count (a + 2 * 0) (omega arith)
+pub atoms-start : (q list : List ℕ) (a : ℕ) → Placing number_bytes (word_from q 0) list a (length q) list 0 (a + 2 * 0)
+atoms-start q list a = placing-starts number_bytes (word_from q 0) list a (length q) (a + 2 * 0) (omega arith)
 
-module _ (w : List ℕ) (from count : ℕ) {old new : List ℕ} (a k : ℕ) (p : Placing number_bytes (word_from w from) old a count new k (a + 2 * k)) where
-  pub atoms-on : k < count → a + 2 * count ≤ length old → (newer : List ℕ) (v : ℕ) → v ≡ get_or w (from + k) 0 → newer ≡ put_at new (a + 2 * k) (number_bytes v)
-      → Placing number_bytes (word_from w from) old a count newer (k + 1) (a + 2 * (k + 1))
-  unfolding word_from
-  atoms-on l m newer v e d =
-      placing-on number_bytes (word_from w from) p l (omega (arith, atoms-length w from count)) newer (a + 2 * (k + 1)) (omega (arith, number-length (word_from w from k)))
-      (d ∙ ap (λ (x : ℕ). put_at new (a + 2 * k) (number_bytes x)) e)
+pub atoms-on : (q : List ℕ) {old new : List ℕ} (a k : ℕ) → Placing number_bytes (word_from q 0) old a (length q) new k (a + 2 * k) → k < length q → a + 2 * length q ≤ length old
+    → (newer : List ℕ) → newer ≡ put_at new (a + 2 * k) (number_bytes (get_or q k 0)) → Placing number_bytes (word_from q 0) old a (length q) newer (k + 1) (a + 2 * (k + 1))
+unfolding word_from
+atoms-on q {old} {new} a k p l m newer d =
+    let z : k ≡ 0 + k = omega arith in
+    placing-on number_bytes (word_from q 0) p l (omega (arith, atoms-length q 0 (length q))) newer (a + 2 * (k + 1)) (omega (arith, number-length (word_from q 0 k)))
+    (d ∙ ap (λ (i : ℕ). put_at new (a + 2 * k) (number_bytes (get_or q i 0))) z)
+
+pub atoms-end : (p : List ℕ) {old new : List ℕ} (a k : ℕ) → Placing number_bytes (word_from p 0) old a (length p) new k (a + 2 * k) → length p ≤ k → new ≡ put_at old a (joined number_bytes p)
+unfolding word_from
+atoms-end p {old} a k w l =
+    placing-ends number_bytes (word_from p 0) w l ∙ ap (λ (q : List ℕ). put_at old a (joined number_bytes q)) (listed-get 0 p (word_from p 0) 0 (λ j. ap (λ (i : ℕ). get_or p i 0) (omega arith)))
 
 -- ---- a product
 
-pub product-written : (w : List ℕ) (i c count : ℕ) (l l₁ : List ℕ) (a v : ℕ) → count ≡ count_in w i c → v ≡ count → a + 1 + 2 * count ≤ length l
-    → l₁ ≡ put_at (set l a v) (a + 1) (joined number_bytes (listed (word_from w (atoms_place i c)) count 0)) → l₁ ≡ put_at l a (product_bytes (product_in w i c))
-unfolding product_bytes product_in
-product-written w i c count l l₁ a v e d h f =
-    let g : ℕ → ℕ = word_from w (atoms_place i c) in
-    let n : length (listed g (count_in w i c) 0) ≡ count_in w i c = listed-length g (count_in w i c) 0 in
-    f ∙ ap (λ (x : List ℕ). put_at x (a + 1) (joined number_bytes (listed g count 0))) (put_one l a v (omega arith))
-    ∙ put_then l a (v ∷ []) (a + 1) (joined number_bytes (listed g count 0)) refl (omega arith)
-    ∙ ap (λ (k : ℕ). put_at l a (v ∷ joined number_bytes (listed g k 0))) e
-    ∙ ap (λ (k : ℕ). put_at l a (k ∷ joined number_bytes (listed g (count_in w i c) 0))) (d ∙ e ∙ sym n)
+pub product-written : (p l l₁ : List ℕ) (a v : ℕ) → v ≡ length p → a < length l → l₁ ≡ put_at (set l a v) (a + 1) (joined number_bytes p) → l₁ ≡ put_at l a (product_bytes p)
+unfolding product_bytes
+product-written p l l₁ a v e h f =
+    f ∙ ap (λ (x : List ℕ). put_at x (a + 1) (joined number_bytes p)) (put_one l a v h)
+    ∙ put_then l a (v ∷ []) (a + 1) (joined number_bytes p) refl (omega arith) ∙ ap (λ (u : ℕ). put_at l a (u ∷ joined number_bytes p)) e
 
 -- ---- the products of a row
 
 module _ (w : List ℕ) (i n : ℕ) {old new : List ℕ} {a c to : ℕ} (p : Placing product_bytes (product_in w i) old a n new c to)
-    (l : c < n) (m : a + length (up_to product_bytes (product_in w i) n) ≤ length old) (count : ℕ) (e : count ≡ count_in w i c) where
-  pub products-room : to + 1 + 2 * count ≤ length new
-  products-room = omega (arith, placing-room product_bytes (product_in w i) p l m, product-length w i c)
+    (l : c < n) (m : a + length (up_to product_bytes (product_in w i) n) ≤ length old) (q : List ℕ) (e : q ≡ product_in w i c) where
+  long : length q ≡ count_in w i c
+  long = ap length e ∙ product-many w i c
 
-  pub products-on : (newer : List ℕ) → newer ≡ put_at new to (product_bytes (product_in w i c)) → Placing product_bytes (product_in w i) old a n newer (c + 1) (to + (1 + 2 * count))
-  products-on newer d = placing-on product_bytes (product_in w i) p l m newer (to + (1 + 2 * count)) (omega (arith, product-length w i c)) d
+  pub products-room : to + 1 + 2 * length q ≤ length new
+  products-room = omega (arith, long, placing-room product_bytes (product_in w i) p l m, product-length w i c)
+
+  pub products-on : (newer : List ℕ) → newer ≡ put_at new to (product_bytes q) → Placing product_bytes (product_in w i) old a n newer (c + 1) (to + (1 + 2 * length q))
+  products-on newer d =
+      placing-on product_bytes (product_in w i) p l m newer (to + (1 + 2 * length q)) (omega (arith, long, product-length w i c)) (d ∙ ap (λ (x : List ℕ). put_at new to (product_bytes x)) e)
 
 -- ---- a row
 

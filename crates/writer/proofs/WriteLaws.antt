@@ -1,22 +1,16 @@
 -- The writer's answer, test by test.
-use mathlib.Core.Path.{◌≡◌, refl, sym, ap, ◌∙◌}
-use mathlib.Core.List.{List}
-use mathlib.Core.Option.{none, some}
-use Prim.Native.Nat.{ℕ, ◌*◌, ◌<◌, ◌≤◌}
-use native.Mathlib.Omega.{arith}
-use lib.ListN.{length}
+use Rattle.std.proofs.Common.{◌≡◌, refl, sym, ap, ◌∙◌, List, ℕ, ◌*◌, ◌<◌, ◌≤◌, arith, length, Some, None, Ok, Err}
 use Rattle.common.proofs.ChoiceLaws.{lt-then, lt-else}
 use Rattle.table.specs.Checking.{check_table}
-use Rattle.table.specs.declared.faults.Fault.{Fault}
+use Rattle.table.specs.declared.faults.Refusal.{Refusal}
 use Rattle.table.specs.declared.checks.Shape.{Shape}
-use Rattle.table.specs.declared.checks.Checked.TheVariants as checked
 use Rattle.work.specs.Room.{room_of}
 use Rattle.work.proofs.RoomLaws.{room_fits, room-few}
 use Rattle.lists.specs.Format.{list_bytes}
 use Rattle.writer.specs.Words.{rows_in}
 use Rattle.writer.specs.Fitting.{first_not, row_passes}
 use Rattle.writer.specs.Writing.{bytes_for, after_look, written_for, written, bytes_of}
-use Rattle.writer.specs.declared.calls.Written.TheVariants.{Refused, BadRow, TooSmall, Bytes}
+use Rattle.writer.specs.declared.calls.Refused.TheVariants.{Table, BadRow, TooSmall}
 
 -- Rows that there is room for.
 module _ (n room rows : ℕ) (e : room ≡ room_of n) (l : rows ≤ room) where
@@ -27,7 +21,7 @@ module _ (n room rows : ℕ) (e : room ≡ room_of n) (l : rows ≤ room) where
   rows_few = omega (arith, room-few n)
 
 module _ (s : Shape) (w : List ℕ) (rows size room : ℕ) (e : room ≡ room_of (length w)) where
-  pub over_room : room < rows → BadRow room ≡ written_for s w rows size
+  pub over_room : room < rows → Err (BadRow room) ≡ written_for s w rows size
   unfolding written_for
   over_room l = rw e (lt-then _ _ _ _ (rw e at l) refl)
 
@@ -36,25 +30,25 @@ module _ (s : Shape) (w : List ℕ) (rows size room : ℕ) (e : room ≡ room_of
     unfolding written_for
     within = sym (lt-else _ _ _ _ (rw e at l) refl)
 
-    pub bad-row : (i : ℕ) → some i ≡ first_not (row_passes s w) rows 0 → BadRow i ≡ written_for s w rows size
+    pub bad-row : (i : ℕ) → Some i ≡ first_not (row_passes s w) rows 0 → Err (BadRow i) ≡ written_for s w rows size
     bad-row i d = sym (within ∙ ap (after_look (bytes_for s w rows) size) (sym d))
 
-    module _ (d : none ≡ first_not (row_passes s w) rows 0) (n : ℕ) (k : n ≡ length (list_bytes s.channels (rows_in s.channels w rows))) where
-      pub too_small : size < n → TooSmall n ≡ written_for s w rows size
-      too_small m = sym (within ∙ ap (after_look (bytes_for s w rows) size) (sym d) ∙ sym (lt-then _ _ _ _ (rw k at m) (ap TooSmall k)))
+    module _ (d : None ≡ first_not (row_passes s w) rows 0) (n : ℕ) (k : n ≡ length (list_bytes s.channels (rows_in s.channels w rows))) where
+      pub too_small : size < n → Err (TooSmall n) ≡ written_for s w rows size
+      too_small m = sym (within ∙ ap (after_look (bytes_for s w rows) size) (sym d) ∙ sym (lt-then _ _ _ _ (rw k at m) (ap (λ (x : ℕ). Err (TooSmall x)) k)))
 
-      pub all-written : n ≤ size → Bytes n ≡ written_for s w rows size
-      all-written m = sym (within ∙ ap (after_look (bytes_for s w rows) size) (sym d) ∙ sym (lt-else _ _ _ _ (rw k at m) (ap Bytes k)))
+      pub all-written : n ≤ size → Ok n ≡ written_for s w rows size
+      all-written m = sym (within ∙ ap (after_look (bytes_for s w rows) size) (sym d) ∙ sym (lt-else _ _ _ _ (rw k at m) (ap Ok k)))
 
 module _ (t w : List ℕ) (rows size : ℕ) where
-  pub table-refused : (f : Fault) (at : ℕ) → check_table t ≡ checked.Refused f at → Refused f at ≡ written t w rows size
+  pub table-refused : (r : Refusal) → check_table t ≡ Err r → Err (Table r) ≡ written t w rows size
   unfolding written
-  table-refused f at e = rw e
+  table-refused r e = rw e
 
-  pub table-good : (s : Shape) → check_table t ≡ checked.Good s → written_for s w rows size ≡ written t w rows size
+  pub table-good : (s : Shape) → check_table t ≡ Ok s → written_for s w rows size ≡ written t w rows size
   unfolding written
   table-good s e = rw e
 
-pub bytes_good : (t w : List ℕ) (rows : ℕ) (s : Shape) → check_table t ≡ checked.Good s → bytes_for s w rows ≡ bytes_of t w rows
+pub bytes_good : (t w : List ℕ) (rows : ℕ) (s : Shape) → check_table t ≡ Ok s → bytes_for s w rows ≡ bytes_of t w rows
 unfolding bytes_of
 bytes_good t w rows s e = rw e

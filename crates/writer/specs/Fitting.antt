@@ -1,22 +1,15 @@
 -- Which rows of the work table can be written.
-use Rattle.std.specs.Prelude.{Bool, true, false, List, ℕ, zero, suc, ◌+◌, ◌*◌, get_or}
-use Rattle.std.proofs.Math.Option.{Option, none, some}
+use Rattle.std.specs.Prelude.{Bool, false, List, ℕ, zero, suc, ◌+◌, ◌*◌, get_or, Option, Some, None, is_none}
 use Rattle.common.specs.Choice.{if_lt, if_true}
 use Rattle.atoms.specs.Masks.{atom_test}
 use Rattle.table.specs.declared.checks.Shape.{Shape}
 use Rattle.work.specs.Layout.{atoms_place}
 use Rattle.writer.specs.Words.{word_from, count_in}
-use Rattle.writer.specs.declared.fitting.Unfit.{Unfit}
-use Rattle.writer.specs.declared.fitting.Unfit.TheVariants.{Row, Nothing}
 
 -- The first of k numbers from i on that does not pass a test, if there is one.
 unfoldable pub first_not : (ℕ → Bool) → ℕ → ℕ → Option ℕ
-first_not test zero i = none
-first_not test (suc k) i = if_true (test i) (first_not test k (i + 1)) (some i)
-
-abbrev pub is_none : Option ℕ → Bool
-is_none none = true
-is_none (some i) = false
+first_not test zero i = None
+first_not test (suc k) i = if_true (test i) (first_not test k (i + 1)) (Some i)
 
 -- Each of the first k numbers passes the test.
 unfoldable pub all_pass : (ℕ → Bool) → ℕ → Bool
@@ -33,8 +26,3 @@ channel_passes messages w i c = if_lt 24 (count_in w i c) false (all_pass (atom_
 -- The state of row i is one of the table's, and each of the table's channels passes.
 unfoldable pub row_passes : Shape → List ℕ → ℕ → Bool
 row_passes s w i = if_lt (get_or w (103 * i) 0) s.states (all_pass (channel_passes s.messages w i) s.channels) false
-
--- What the look for a row that cannot be written says.
-abbrev pub unfit_of : Unfit → Option ℕ
-unfit_of (Row i) = some i
-unfit_of Nothing = none

@@ -6,6 +6,7 @@ pub mod calls;
 pub mod fitting;
 pub mod placing;
 pub mod sizes;
+pub mod words;
 
 // What the later parts name.
-pub use crate::calls::{Written, write_list};
+pub use crate::calls::{Refused, write_list};

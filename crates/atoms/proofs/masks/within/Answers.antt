@@ -1,4 +1,4 @@
-use mathlib.Core.Path.{refl}
+use Rattle.std.proofs.Common.{refl}
 use Rattle.atoms.specs.Masks.{sub}
 use Rattle.atoms.proofs.masks.within.Goals as goal
 

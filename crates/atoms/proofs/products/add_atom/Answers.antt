@@ -1,7 +1,5 @@
-use mathlib.Core.Path.{sym, ◌∙◌}
-use native.Mathlib.Omega.{arith}
+use Rattle.std.proofs.Common.{sym, ◌∙◌, arith, rules}
 use Rattle.atoms.proofs.AddLaws.{added-alone, added_none, added-behind}
-use borrow.Author.Rules.{rules}
 use Rattle.atoms.proofs.products.add_atom.Goals as goal
 
 pub returns-then-k-eq0 : goal.returns-then-k-eq0

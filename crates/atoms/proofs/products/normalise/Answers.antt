@@ -1,6 +1,5 @@
-use native.Mathlib.Omega.{arith}
+use Rattle.std.proofs.Common.{arith, rules}
 use Rattle.atoms.proofs.NormaliseLaws.{going-starts, going-fixed, going_on, going-ends}
-use borrow.Author.Rules.{rules}
 use Rattle.atoms.proofs.products.normalise.Goals as goal
 
 pub loop-i-init : goal.loop-i-init

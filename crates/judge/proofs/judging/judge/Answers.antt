@@ -1,12 +1,13 @@
-use mathlib.Core.Path.{sym, ◌∙◌}
+use Rattle.std.proofs.lemmas.Result.{err_from_is_err_and}
 use Rattle.judge.proofs.AnswerLaws.{judges-refused, judges-good}
 use Rattle.judge.proofs.judging.judge.Goals as goal
 
-pub returns-in-Refused : goal.returns-in-Refused
-returns-in-Refused c = judges-refused _ _ _ _ (sym c.in-Refused.is ∙ c.check_table.ensures)
+pub returns-in_err-table : goal.returns-in_err-table
+returns-in_err-table c =
+    let p = err_from_is_err_and c.from_residual.result c.from_residual.ensures.1 in
+    rw (p.1, p.2) (judges-refused _ _ _ c.in_err-table.ensures.answer)
 
-pub judge_good-requires : goal.judge_good-requires
-judge_good-requires c = sym c.check_table.ensures ∙ c.in-Good.is
-
-pub returns-in-Good : goal.returns-in-Good
-returns-in-Good c = judges-good _ _ _ _ (sym c.in-Good.is ∙ c.check_table.ensures) c.judge_good.ensures
+pub returns : goal.returns
+returns c =
+    let e = c.in_ok-table.ensures in
+    judges-good _ _ _ _ e.answer (rw e.kept at c.judge_good.ensures)

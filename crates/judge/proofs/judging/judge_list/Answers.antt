@@ -1,32 +1,35 @@
-use native.Mathlib.Omega.{arith}
+use Rattle.std.proofs.Common.{arith, sym, refl, length-take-le}
 use Rattle.table.proofs.GoodLaws.{ranges}
 use Rattle.judge.proofs.AnswerLaws.{list-refused, list-sized, list-states, list-judged}
 use Rattle.judge.proofs.judging.judge_list.Goals as goal
 
 pub read_list-requires : goal.read_list-requires
 read_list-requires c =
-    let p = c.requires in
-    let r = ranges _ _ p.good_table in
+    let r = ranges _ _ c.args.table.now.good in
     record {
       channels_bound = (r.channels, r.messages);
       in_bounds = (omega arith, omega arith, omega arith);
     }
 
-pub returns-in-Refused : goal.returns-in-Refused
-returns-in-Refused c = list-refused _ _ _ c.read_list.ensures.value _ _ _ c.in-Refused.is
+pub returns-in-Err : goal.returns-in-Err
+returns-in-Err c = list-refused _ _ _ c.read_list.ensures.value _ _ c.in-Err.is
 
-pub judge_rows-requires : goal.judge_rows-requires
-judge_rows-requires c =
-    let p = c.requires in
+pub slice_bounds-rows-end : goal.slice_bounds-rows-end
+slice_bounds-rows-end c =
     let e = c.read_list.ensures in
-    let k = c.in-Good.is in
-    record {
-      good_table = p.good_table;
-      sized = list-sized _ _ _ e.value _ _ e.list_told _ k (ranges _ _ p.good_table).channels;
-      rows_in_bounds = list-states _ _ _ e.value _ _ e.list_told _ k;
-    }
+    list-states _ _ _ e.value _ _ e.list_told _ c.in-Ok.is
 
-pub returns-in-Good : goal.returns-in-Good
-returns-in-Good c =
+pub slice_bounds-rows-end-in-Ok : goal.slice_bounds-rows-end-in-Ok
+slice_bounds-rows-end-in-Ok c =
     let e = c.read_list.ensures in
-    list-judged _ _ _ e.value _ _ e.list_told _ c.in-Good.is _ c.judge_rows.ensures
+    sym (length-take-le c.in-Ok.count c.read_list.new.states (list-states _ _ _ e.value _ _ e.list_told _ c.in-Ok.is))
+
+pub invariant_of-rows : goal.invariant_of-rows
+invariant_of-rows c =
+    let e = c.read_list.ensures in
+    record { sized = list-sized _ _ _ e.value _ _ e.list_told _ c.in-Ok.is (ranges _ _ c.args.table.now.good).channels }
+
+pub returns-in-Ok : goal.returns-in-Ok
+returns-in-Ok c =
+    let e = c.read_list.ensures in
+    list-judged _ _ _ e.value _ _ e.list_told _ c.in-Ok.is _ refl refl refl refl _ c.judge_rows.ensures

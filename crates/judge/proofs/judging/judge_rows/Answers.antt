@@ -1,11 +1,12 @@
 use Rattle.judge.proofs.JudgingLaws.{judged-no-start, judged-bad, judged-moves}
 use Rattle.judge.proofs.judging.judge_rows.Goals as goal
 
-pub returns-in-At : goal.returns-in-At
-returns-in-At c = judged-bad _ _ c.requires.good_table _ _ _ _ c.has_start.ensures c.if-has_start.true _ c.lowest_bad.ensures _ c.in-At.is
+pub returns-then-not-has_start : goal.returns-then-not-has_start
+returns-then-not-has_start c = judged-no-start _ _ c.args.table.now.good _ c.has_start.ensures c.if-not-has_start.true
 
-pub returns-in-Nowhere : goal.returns-in-Nowhere
-returns-in-Nowhere c = judged-moves _ _ c.requires.good_table _ _ _ _ c.has_start.ensures c.if-has_start.true _ c.lowest_bad.ensures c.in-Nowhere.is c.judge_moves.ensures
+pub returns-in-Some : goal.returns-in-Some
+returns-in-Some c = judged-bad _ _ c.args.table.now.good _ c.has_start.ensures c.if-not-has_start.false _ c.lowest_bad.ensures _ c.in-Some.is
 
-pub returns : goal.returns
-returns c = judged-no-start _ _ c.requires.good_table _ _ _ _ c.has_start.ensures c.if-has_start.false
+pub returns-in-None : goal.returns-in-None
+returns-in-None c =
+    judged-moves _ _ c.args.table.now.good _ c.has_start.ensures c.if-not-has_start.false _ c.lowest_bad.ensures c.requires c.in-None.is c.judge_moves.ensures

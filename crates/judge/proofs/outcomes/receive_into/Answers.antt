@@ -1,43 +1,22 @@
-use native.Mathlib.Omega.{arith}
-use Rattle.judge.proofs.LookLaws.{range-asks, range-there}
-use Rattle.judge.proofs.OutcomeLaws.{received_none, received-some, left-place}
+use Rattle.std.proofs.Common.{arith, sym, length-take-le}
+use Rattle.judge.proofs.OutcomeLaws.{received-few, received-some}
 use Rattle.judge.proofs.outcomes.receive_into.Goals as goal
 
-pub product_from-from-requires : goal.product_from-from-requires
-product_from-from-requires c = range-asks _ _ _ _ _ _ c.requires.sized (omega arith) (omega arith)
+pub slice_bounds-copy_from_slice-end : goal.slice_bounds-copy_from_slice-end
+slice_bounds-copy_from_slice-end c = let p = c.product.ensures in omega (arith, received-few _ _ _ _ _ _ p.atoms _ _ c.in_ok-rest.ensures.what_is_left p.few)
 
-pub product_to-to-requires : goal.product_to-to-requires
-product_to-to-requires c = range-asks _ _ _ _ _ _ c.requires.sized (omega arith) (omega arith)
+pub slice_bounds-copy_from_slice-end-2 : goal.slice_bounds-copy_from_slice-end-2
+slice_bounds-copy_from_slice-end-2 c =
+    let p = c.product.ensures in
+    sym (length-take-le _ _ (omega (arith, received-few _ _ _ _ _ _ p.atoms _ _ c.in_ok-rest.ensures.what_is_left p.few)))
 
-pub receive_at-requires : goal.receive_at-requires
-receive_at-requires c =
-    let g = range-there _ _ _ _ _ _ _ _ c.requires.sized (omega arith) (omega arith) c.product_from-from.ensures c.product_to-to.ensures in
-    (g.rises, g.inside, omega arith)
+pub copy_from_slice-requires : goal.copy_from_slice-requires
+copy_from_slice-requires c =
+    let p = c.product.ensures in
+    length-take-le _ _ (omega (arith, received-few _ _ _ _ _ _ p.atoms _ _ c.in_ok-rest.ensures.what_is_left p.few))
 
-pub copy_front-requires : goal.copy_front-requires
-copy_front-requires c =
-    let p = left-place _ _ _ _ c.in-From.is c.receive_at.ensures.within in
-    let g = range-there _ _ _ _ _ _ _ _ c.requires.sized (omega arith) (omega arith) c.product_from-from.ensures c.product_to-to.ensures in
-    (p.1, g.inside, omega (arith, g.short))
+pub returns-clause-buffer_after : goal.returns-clause-buffer_after
+returns-clause-buffer_after c = received-some _ _ _ _ _ _ c.product.ensures.atoms _ _ c.in_ok-rest.ensures.what_is_left _ _ c.copy_from_slice.ensures.after
 
-pub overflow_sub-result : goal.overflow_sub-result
-overflow_sub-result c =
-    let p = left-place _ _ _ _ c.in-From.is c.receive_at.ensures.within in
-    p.1
-
-pub returns-in-Impossible : goal.returns-in-Impossible
-returns-in-Impossible c =
-    let g = range-there _ _ _ _ _ _ _ _ c.requires.sized (omega arith) (omega arith) c.product_from-from.ensures c.product_to-to.ensures in
-    record {
-      buffer_after = received_none _ _ _ _ _ _ _ (omega arith) c.product_from-from.ensures c.product_to-to.ensures g _ c.receive_at.ensures.p_value c.in-Impossible.is;
-      few_changed = tt;
-    }
-
-pub returns-in-From : goal.returns-in-From
-returns-in-From c =
-    let p = left-place _ _ _ _ c.in-From.is c.receive_at.ensures.within in
-    let g = range-there _ _ _ _ _ _ _ _ c.requires.sized (omega arith) (omega arith) c.product_from-from.ensures c.product_to-to.ensures in
-    record {
-      buffer_after = received-some _ _ _ _ _ _ _ (omega arith) c.product_from-from.ensures c.product_to-to.ensures g _ c.receive_at.ensures.p_value _ _ _ c.in-From.is c.copy_front.ensures;
-      few_changed = omega (arith, g.short);
-    }
+pub returns-clause-few_changed : goal.returns-clause-few_changed
+returns-clause-few_changed c = let p = c.product.ensures in omega (arith, received-few _ _ _ _ _ _ p.atoms _ _ c.in_ok-rest.ensures.what_is_left p.few)

@@ -1,15 +1,12 @@
-use native.Mathlib.Omega.{arith}
-use Rattle.judge.proofs.StateLaws.{bad-begins, bad-lacks, bad-here, bad-later}
+use Rattle.std.proofs.Common.{◌∙◌, rules, tests}
+use Rattle.std.proofs.lemmas.Iterator.{YieldsList-from_slice}
+use Rattle.std.proofs.lemmas.Iterator.Search.{position_from_yields_List}
+use Rattle.table.specs.Systems.{bad_state}
+use Rattle.judge.proofs.StateLaws.{bad_position}
 use Rattle.judge.proofs.states.lowest_bad.Goals as goal
 
-pub loop-i-init : goal.loop-i-init
-loop-i-init c = bad-begins _ _ _ _
-
-pub returns-then-is_bad : goal.returns-then-is_bad
-returns-then-is_bad c = bad-here _ _ _ _ _ c.loop-i.invariant (omega arith) c.is_bad.ensures c.if-is_bad.true
-
-pub loop-i-preserved : goal.loop-i-preserved
-loop-i-preserved c = bad-later _ _ _ _ _ c.loop-i.invariant (omega arith) c.is_bad.ensures c.if-is_bad.false
-
 pub returns : goal.returns
-returns c = bad-lacks _ _ _ _ _ c.loop-i.invariant (omega arith)
+returns c =
+    let s = c.args.states.now in
+    position_from_yields_List (bad_state c.args.table.now.bytes.now c.args.table.now.shape) _ _ _ c.position.ensures.ran (YieldsList-from_slice s cc) (λ x b q k. search (rules, tests))
+    ∙ bad_position _ _ _

@@ -1,17 +1,10 @@
-use native.Mathlib.Omega.{arith}
-use Rattle.lcs.proofs.ExpressionLaws.{left-within, receive-impossible, receive-left}
+use Rattle.std.proofs.Common.{arith, ◌∙◌}
+use Rattle.common.proofs.CopyLaws.{front-within}
+use Rattle.lcs.proofs.ExpressionLaws.{receive-impossible, receive-left}
 use Rattle.lcs.proofs.expressions.receive_front.Goals as goal
 
-pub move_front-requires : goal.move_front-requires
-move_front-requires c = (left-within _ _ _ _ c.in-From.is c.receive_at.ensures.within, omega arith)
+pub returns-in-None : goal.returns-in-None
+returns-in-None c = receive-impossible _ _ c.in-None.ensures.what_is_left
 
-pub overflow_sub-result : goal.overflow_sub-result
-overflow_sub-result c = left-within _ _ _ _ c.in-From.is c.receive_at.ensures.within
-
-pub returns-in-Impossible : goal.returns-in-Impossible
-returns-in-Impossible c = receive-impossible _ _ c.in-Impossible.is c.receive_at.ensures.p_value
-
-pub returns-in-From : goal.returns-in-From
-returns-in-From c =
-    let r = c.receive_at in
-    receive-left _ _ _ _ c.in-From.is r.ensures.p_value (left-within _ _ _ _ c.in-From.is r.ensures.within) c.move_front.ensures
+pub returns-in-Some : goal.returns-in-Some
+returns-in-Some c = receive-left _ _ _ _ c.in-Some.ensures.what_is_left (c.copy_within.ensures.after ∙ front-within _ _ _ (omega arith))

@@ -1,6 +1,6 @@
 -- Each return goes through the chain of tests by what led there.
-use mathlib.Core.Path.{refl, sym}
-use native.Mathlib.Omega.{arith}
+use Rattle.std.proofs.Common.{refl, sym, arith}
+use Rattle.std.proofs.lemmas.Result.{err_from_is_err_and}
 use Rattle.common.proofs.ChoiceLaws.{lt-then, lt-else}
 use Rattle.lists.specs.Reading.{read_product}
 use Rattle.lists.proofs.ProductLaws.{product-fails, product-read}
@@ -14,8 +14,10 @@ pub returns-then-count-gt24 : goal.returns-then-count-gt24
 unfolding read_product
 returns-then-count-gt24 c = sym (lt-then _ _ _ _ (omega arith) (lt-then _ _ _ _ (omega arith) refl))
 
-pub returns-in-Fails : goal.returns-in-Fails
-returns-in-Fails c = product-fails _ _ _ _ (cc) (omega arith) (omega arith) _ (rw c.in-Fails.is at c.read_atoms.ensures)
+pub returns-in_err-read_atoms : goal.returns-in_err-read_atoms
+returns-in_err-read_atoms c =
+    let p = err_from_is_err_and c.from_residual.result c.from_residual.ensures.1 in
+    rw (p.1, p.2) (product-fails _ _ _ _ (cc) (omega arith) (omega arith) _ c.in_err-read_atoms.ensures)
 
-pub returns-in-Passes : goal.returns-in-Passes
-returns-in-Passes c = product-read _ _ _ _ (cc) (omega arith) (omega arith) _ _ _ (rw c.in-Passes.is at c.read_atoms.ensures)
+pub returns : goal.returns
+returns c = product-read _ _ _ _ (cc) (omega arith) (omega arith) _ _ _ c.in_ok-read_atoms.ensures

@@ -1,6 +1,5 @@
 -- Each return goes through the chain of tests by what led there.
-use mathlib.Core.Path.{refl}
-use native.Mathlib.Omega.{arith}
+use Rattle.std.proofs.Common.{refl, arith}
 use Rattle.common.proofs.ChoiceLaws.{lt-then, lt-else, eq-then, eq-else}
 use Rattle.lists.specs.Reading.{frame_at}
 use Rattle.lists.proofs.records.frame_at.Goals as goal

@@ -1,5 +1,4 @@
-use native.Mathlib.Nat.{mul-le-mul}
-use native.Mathlib.Omega.{arith}
+use Rattle.std.proofs.Common.{mul-le-mul, arith}
 use Rattle.lists.proofs.records.product_number.Goals as goal
 
 pub overflow_mul-result : goal.overflow_mul-result

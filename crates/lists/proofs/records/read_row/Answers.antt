@@ -1,17 +1,18 @@
 -- A frame that passes says that the payload is there.
-use borrow.Author.Rules.{rules}
-use mathlib.Core.Path.{sym, ◌∙◌}
-use native.Mathlib.Omega.{arith}
+use Rattle.std.proofs.Common.{rules, sym, arith}
+use Rattle.std.proofs.lemmas.Result.{err_from_is_err_and}
 use Rattle.lists.specs.Steps.{RowTold}
 use Rattle.lists.proofs.RowLaws.{frame-ok, row-unframed, row_told}
 use Rattle.lists.proofs.records.read_row.Goals as goal
 
-pub returns-in-Fails : goal.returns-in-Fails
+pub returns-in_err-end : goal.returns-in_err-end
 unfolding RowTold
-returns-in-Fails c = row-unframed _ _ _ _ _ (sym c.frame_at.ensures ∙ c.in-Fails.is)
+returns-in_err-end c =
+    let p = err_from_is_err_and c.from_residual.result c.from_residual.ensures.1 in
+    rw (p.1, p.2) (row-unframed _ _ _ _ _ (sym c.in_err-end.ensures))
 
 pub read_payload-requires : goal.read_payload-requires
-read_payload-requires c = let f = frame-ok _ _ _ _ (sym c.frame_at.ensures ∙ c.in-End.is) in (omega arith, omega arith, f.counted, search rules)
+read_payload-requires c = let f = frame-ok _ _ _ _ (sym c.in_ok-end.ensures) in (omega arith, omega arith, f.counted, search rules)
 
-pub returns-in-End : goal.returns-in-End
-returns-in-End c = row_told _ _ _ _ _ (sym c.frame_at.ensures ∙ c.in-End.is) _ _ _ _ _ _ c.read_payload.ensures
+pub returns : goal.returns
+returns c = row_told _ _ _ _ _ (sym c.in_ok-end.ensures) _ _ _ _ _ _ c.read_payload.ensures

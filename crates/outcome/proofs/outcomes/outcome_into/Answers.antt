@@ -1,55 +1,25 @@
-use native.Mathlib.Omega.{arith}
-use Rattle.outcome.proofs.ChangeLaws.{sends-in, receives-in, outcome-quiet, outcome-sent, outcome-none, outcome-left, few-left}
+use Rattle.std.proofs.Common.{arith, Some, None}
+use Rattle.outcome.proofs.ChangeLaws.{outcome-quiet, outcome-sent, outcome-received}
 use Rattle.outcome.proofs.outcomes.outcome_into.Goals as goal
 
-pub send_outcome-count-requires : goal.send_outcome-count-requires
-send_outcome-count-requires c =
-    let p = c.requires in
-    let q = sends-in _ _ _ c.in-Send.is p.ranged in
-    record {
-      sized = p.sized;
-      i_lt_rows = (omega arith, omega arith, q.0, q.1, omega arith);
-      channel_value = p.by_index _;
-    }
+pub sent_into-count-requires-clause-lengths : goal.sent_into-count-requires-clause-lengths
+sent_into-count-requires-clause-lengths c = (c.product.ensures.few, omega arith)
 
-pub receive_outcome-requires : goal.receive_outcome-requires
-receive_outcome-requires c =
-    let p = c.requires in
-    let q = receives-in _ _ _ c.in-Receive.is p.ranged in
-    record {
-      sized = p.sized;
-      i_lt_rows = (omega arith, omega arith, q.0, q.1, omega arith);
-    }
+pub received_into-requires : goal.received_into-requires
+received_into-requires c = (c.product-in-Receive.ensures.few, omega arith, (rw c.in-Receive.is at c.requires.ranged).1)
 
-pub returns-in-Quiet : goal.returns-in-Quiet
-returns-in-Quiet c =
-    record {
-      buffer_after = outcome-quiet _ _ _ _ _ c.in-Quiet.is;
-      few_changed = (omega arith, omega arith);
-    }
+pub returns-in_err-count-in-Receive-clause-buffer_after : goal.returns-in_err-count-in-Receive-clause-buffer_after
+returns-in_err-count-in-Receive-clause-buffer_after c =
+    rw c.from_residual.ensures
+    (outcome-received _ _ _ _ _ _ _ c.received_into.new.buffer None c.in-Receive.is c.product-in-Receive.ensures.atoms c.in_err-count-in-Receive.ensures.buffer_after)
 
-pub returns-in-Send : goal.returns-in-Send
-returns-in-Send c =
-    let s = c.send_outcome-count.ensures in
-    let q = sends-in _ _ _ c.in-Send.is c.requires.ranged in
-    record {
-      buffer_after = outcome-sent _ _ _ _ _ _ _ _ c.in-Send.is s;
-      few_changed = (omega arith, s.few);
-    }
+pub returns-in-Quiet-clause-buffer_after : goal.returns-in-Quiet-clause-buffer_after
+returns-in-Quiet-clause-buffer_after c = outcome-quiet _ _ _ _ _ c.in-Quiet.is
 
-pub returns-in-Impossible : goal.returns-in-Impossible
-returns-in-Impossible c =
-    record {
-      buffer_after = outcome-none _ _ _ _ _ _ _ _ c.in-Impossible.is c.in-Receive.is c.receive_outcome.ensures.buffer_after;
-      few_changed = tt;
-    }
+pub returns-in-Send-clause-buffer_after : goal.returns-in-Send-clause-buffer_after
+returns-in-Send-clause-buffer_after c =
+    outcome-sent _ _ _ _ _ _ _ _ _ _ c.in-Send.is c.product.ensures.atoms c.sent_atom.ensures c.sent_into-count.ensures
 
-pub returns-in-To : goal.returns-in-To
-returns-in-To c =
-    let g = c.in-To.is in
-    let q = receives-in _ _ _ c.in-Receive.is c.requires.ranged in
-    let k = few-left _ _ g c.receive_outcome.ensures.few_left in
-    record {
-      buffer_after = outcome-left _ _ _ _ _ _ _ _ _ g c.in-Receive.is c.receive_outcome.ensures.buffer_after;
-      few_changed = (omega arith, omega arith);
-    }
+pub returns-in_ok-count-in-Receive-clause-buffer_after : goal.returns-in_ok-count-in-Receive-clause-buffer_after
+returns-in_ok-count-in-Receive-clause-buffer_after c =
+    outcome-received _ _ _ _ _ _ _ _ (Some _) c.in-Receive.is c.product-in-Receive.ensures.atoms c.in_ok-count-in-Receive.ensures.buffer_after

@@ -1,19 +1,12 @@
-use native.Mathlib.Omega.{arith}
-use Rattle.prover.proofs.OutputLaws.{long-made, refused-made, good-table, good-made}
+use Rattle.std.proofs.Common.{arith}
+use Rattle.prover.proofs.OutputLaws.{long-made, refused-made, good-made}
 use Rattle.prover.proofs.answers.write_answer.Goals as goal
 
-pub returns-then-table-gt36874 : goal.returns-then-table-gt36874
-returns-then-table-gt36874 c = long-made _ _ _ _ _ _ (omega arith) c.long_table_line-text.ensures
+pub returns-then-t-gt36874 : goal.returns-then-t-gt36874
+returns-then-t-gt36874 c = long-made _ _ _ _ _ _ (omega arith) c.write-text.ensures
 
-pub returns-in-Refused : goal.returns-in-Refused
-returns-in-Refused c = refused-made _ _ _ _ _ _ _ _ _ (omega arith) c.check_table.ensures c.in-Refused.is c.fault_line-text.ensures
+pub returns-in-Ok : goal.returns-in-Ok
+returns-in-Ok c = good-made _ _ _ _ _ _ _ (omega arith) (rw c.in-Ok.ensures.kept at c.write_good.ensures)
 
-pub write_good-requires : goal.write_good-requires
-write_good-requires c =
-    record {
-      good_table = good-table _ _ _ c.check_table.ensures c.in-Good.is;
-      work_len = (omega arith, omega arith, omega arith, omega arith);
-    }
-
-pub returns-in-Good : goal.returns-in-Good
-returns-in-Good c = good-made _ _ _ _ _ _ _ (omega arith) c.write_good.ensures
+pub returns-in-Err : goal.returns-in-Err
+returns-in-Err c = refused-made _ _ _ _ _ _ _ (omega arith) c.in-Err.ensures.answer c.fault_line-text.ensures

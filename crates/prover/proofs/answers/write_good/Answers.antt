@@ -1,21 +1,19 @@
-use mathlib.Core.Path.{refl}
-use native.Mathlib.Omega.{arith}
+-- The answer of the search is that of a safe table, or another.
+use Rattle.std.proofs.Common.{refl, ap, ◌∙◌, Ok, arith, rules, tests}
 use Rattle.search.proofs.SearchLaws.{search-counted}
 use Rattle.verdicts.proofs.SaidLaws.{left-fits}
-use Rattle.prover.proofs.OutputLaws.{safe-room, safe-next, safe-found, other-found}
+use Rattle.prover.proofs.OutputLaws.{safe-found, other-found}
 use Rattle.prover.proofs.answers.write_good.Goals as goal
 
-pub safe_line-next-requires : goal.safe_line-next-requires
-safe_line-next-requires c = safe-room _ _ (omega arith) (omega arith)
-
-pub write_listed-requires : goal.write_listed-requires
-write_listed-requires c = safe-next _ _ _ _ _ (omega arith) (omega arith) c.safe_line-next.ensures
-
-pub returns-in-Safely : goal.returns-in-Safely
-returns-in-Safely c = safe-found _ _ _ _ (omega arith) (omega arith) _ _ _ _ _ _ c.search_good-verdict.ensures _ c.safe_rows.ensures _ _ _ _ _ (omega arith) c.in-Safely.is c.write_list-listed.ensures.value c.write_list-listed.ensures.list_after c.safe_line-next.ensures c.write_listed.ensures
+pub returns-in-Ok-Safe : goal.returns-in-Ok-Safe
+returns-in-Ok-Safe c =
+    safe-found _ _ _ _ (omega arith) (omega arith) _ _ _ _ _ _ c.search_good-verdict.ensures _ _ (c.in-Ok-Safe.is ∙ ap Ok (rw c.in-Ok-Safe.is at c.in-Ok-Safe.field-0-is))
+    c.write_safe.ensures
 
 pub write_verdict-text-requires : goal.write_verdict-text-requires
-write_verdict-text-requires c = (c.requires.good_table, left-fits _ _ _ _ _ _ c.search_good-verdict.ensures (search-counted _ _ _), omega arith)
+write_verdict-text-requires c = (left-fits _ _ _ _ _ _ c.search_good-verdict.ensures (search-counted _ _ _), omega arith)
 
-pub returns-in-Otherwise : goal.returns-in-Otherwise
-returns-in-Otherwise c = other-found _ _ _ _ (omega arith) (omega arith) _ _ _ _ _ _ c.search_good-verdict.ensures _ c.safe_rows.ensures _ c.in-Otherwise.is refl c.write_verdict-text.ensures
+pub returns : goal.returns
+returns c =
+    other-found _ _ _ _ (omega arith) (omega arith) _ _ _ _ _ _ c.search_good-verdict.ensures _
+    (elim c.match-verdict.branch [ goal.in-Ok+in-Unsafe-1 w ↦ λ n e. search (rules, tests) | goal.in-Err-1 w ↦ λ n e. search (rules, tests) ]) refl c.write_verdict-text.ensures

@@ -1,5 +1,4 @@
-use Prim.Native.Nat.{◌-◌}
-use lib.ListN.{length}
+use Rattle.std.proofs.Common.{◌-◌, length}
 use Rattle.reader.proofs.WalkLaws.{AtRecord}
 use Rattle.reader.proofs.reader.walk_records.Given as goal
 

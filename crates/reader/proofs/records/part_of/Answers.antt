@@ -1,5 +1,5 @@
 -- The part from four bytes behind the place is the payload.
-use mathlib.Core.Path.{refl}
+use Rattle.std.proofs.Common.{refl}
 use Rattle.reader.proofs.RecordLaws.{part-is}
 use Rattle.reader.proofs.records.part_of.Goals as goal
 

@@ -1,16 +1,12 @@
 -- A whole record's payload is there, and is handed back; a cut one has none.
 use Rattle.reader.proofs.RecordLaws.{whole-there, payload-whole, payload_cut}
-use mathlib.Core.Path.{sym, ◌∙◌}
 use Rattle.reader.proofs.records.payload_at.Goals as goal
 
-pub returns-in_default : goal.returns-in_default
-returns-in_default c = payload_cut _ _ (sym c.in_default.is ∙ c.record_at.ensures)
-
 pub part_of-requires : goal.part_of-requires
-part_of-requires c = whole-there _ _ _ _ _ (sym c.in-Whole.is ∙ c.record_at.ensures)
+part_of-requires c = whole-there _ _ _ c.in-Some.ensures
 
-pub returns : goal.returns
-returns c =
-    payload-whole _ _ _ _ _ _
-    (sym c.in-Whole.is ∙ c.record_at.ensures)
-    c.part_of.ensures
+pub returns-in-Some : goal.returns-in-Some
+returns-in-Some c = payload-whole _ _ _ _ c.in-Some.ensures c.part_of.ensures
+
+pub returns-in-None : goal.returns-in-None
+returns-in-None c = payload_cut _ _ c.in-None.ensures

@@ -1,18 +1,17 @@
 -- Each return goes through the chain of tests by what led there.
-use mathlib.Core.Path.{refl}
-use native.Mathlib.Omega.{arith}
+use Rattle.std.proofs.Common.{refl, arith}
 use Rattle.common.proofs.ChoiceLaws.{lt-then, lt-else}
 use Rattle.reader.specs.Records.{record_at}
 use Rattle.reader.proofs.RecordLaws.{whole_is}
 use Rattle.reader.proofs.records.record_at.Goals as goal
+use Rattle.reader.proofs.records.record_at.Goals.{then-t-at-via-then-t-at, then-t-at-via-else-t-at+then-t-at-lt4}
 
 pub returns-then-t-at : goal.returns-then-t-at
 unfolding record_at
-returns-then-t-at c = lt-then _ _ _ _ (omega arith) refl
-
-pub returns-then-t-at-lt4 : goal.returns-then-t-at-lt4
-unfolding record_at
-returns-then-t-at-lt4 c = lt-then _ _ _ _ (omega arith) refl
+returns-then-t-at c =
+    lt-then _ _ _ _
+    (elim c.then-t-at.branch [ then-t-at-via-then-t-at w ↦ omega arith | then-t-at-via-else-t-at+then-t-at-lt4 w ↦ omega arith ])
+    refl
 
 pub returns-then-t-at-2 : goal.returns-then-t-at-2
 unfolding record_at

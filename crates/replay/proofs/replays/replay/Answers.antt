@@ -1,17 +1,18 @@
 -- The refusals in their order, then the words played.
-use mathlib.Core.Path.{sym, ◌∙◌}
-use native.Mathlib.Omega.{arith}
+use Rattle.std.proofs.Common.{sym, ap, arith}
+use Rattle.std.specs.Prelude.{Ok}
+use Rattle.std.proofs.lemmas.Result.{err_from_is_err_and}
 use Rattle.replay.proofs.AnswerLaws.{replays-refused, replays-long, replays-played}
 use Rattle.replay.proofs.replays.replay.Goals as goal
 
-pub returns-in-Refused : goal.returns-in-Refused
-returns-in-Refused c = replays-refused _ _ _ _ (cc)
+pub returns-in_err-table : goal.returns-in_err-table
+returns-in_err-table c =
+    let p = err_from_is_err_and c.from_residual.result c.from_residual.ensures.1 in
+    rw (p.1, p.2) (replays-refused _ _ _ (sym c.in_err-table.ensures.answer))
 
 pub returns-then-run-gt2048 : goal.returns-then-run-gt2048
-returns-then-run-gt2048 c = replays-long _ _ _ (sym c.in-Good.is ∙ c.check_table.ensures) (omega arith)
+returns-then-run-gt2048 c = replays-long _ _ _ (sym c.in_ok-table.ensures.answer) (omega arith)
 
-pub play_empty-requires : goal.play_empty-requires
-play_empty-requires c = (sym c.check_table.ensures ∙ c.in-Good.is, omega arith)
-
-pub returns-in-Good : goal.returns-in-Good
-returns-in-Good c = replays-played _ _ _ (sym c.in-Good.is ∙ c.check_table.ensures) _ (omega arith) c.play_empty.ensures
+pub returns : goal.returns
+returns c =
+    replays-played _ _ _ (sym c.in_ok-table.ensures.answer) _ (omega arith) (ap (λ e. Ok e) (rw c.in_ok-table.ensures.kept at c.play_run.ensures))

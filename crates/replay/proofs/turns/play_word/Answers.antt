@@ -1,19 +1,13 @@
 -- The transition of that number, where the table has it, is the move that the word plays.
-use native.Mathlib.Omega.{arith}
-use Rattle.table.proofs.GoodLaws.{transition-there}
 use Rattle.table.proofs.SystemLaws.{transition-ranged}
 use Rattle.replay.proofs.TurnLaws.{turn-past, turn-there}
-use borrow.Author.Rules.{rules}
 use Rattle.replay.proofs.turns.play_word.Goals as goal
 
-pub transition_at-requires : goal.transition_at-requires
-transition_at-requires c = transition-there _ _ c.requires.0 _ (omega arith)
-
 pub play_move-requires : goal.play_move-requires
-play_move-requires c = (transition-ranged _ _ c.requires.0 _ _ c.transition_at.ensures (omega arith), search rules)
+play_move-requires c = (transition-ranged _ _ c.args.table.now.good _ _ c.transition.ensures c.if-step-table.true, c.requires)
 
-pub returns-then-number-s : goal.returns-then-number-s
-returns-then-number-s c = turn-there _ _ _ _ _ _ c.requires.0 (omega arith) c.transition_at.ensures c.play_move.ensures
+pub returns-then-step-table : goal.returns-then-step-table
+returns-then-step-table c = turn-there _ _ _ _ _ c.args.table.now.good c.from-step.ensures c.if-step-table.true c.transition.ensures c.play_move.ensures
 
 pub returns : goal.returns
-returns c = turn-past _ _ _ _ _ _ c.requires.0 (omega arith)
+returns c = turn-past _ _ _ _ _ c.args.table.now.good c.from-step.ensures.0 c.if-step-table.false

@@ -1,51 +1,41 @@
-use native.Mathlib.Omega.{arith}
-use Rattle.table.proofs.GoodLaws.{transition-there}
+use Rattle.std.proofs.Common.{◌≡◌, length, ap, arith}
 use Rattle.table.proofs.SystemLaws.{moves-length}
+use Rattle.work.specs.Room.{room_of}
 use Rattle.search.proofs.StandingLaws.{grown-there}
 use Rattle.search.proofs.VisitLaws.{sized}
-use Rattle.search.proofs.PassLaws.{passing-starts, passing-on, passing-by, passing-cut, passing-ends}
+use Rattle.search.proofs.PassLaws.{passing-on, passing-by, passing-cut, passing-ends}
 use Rattle.search.proofs.passes.pass_row.Goals as goal
 
 pub state_of-state-requires : goal.state_of-state-requires
-state_of-state-requires c =
-    let p = c.requires in
-    omega (arith, (sized _ _ p.good_table _ _ _ p.standing).there)
+state_of-state-requires c = omega (arith, (sized _ _ c.args.table.now.good _ _ _ c.requires.standing).there)
 
-pub moves-init : goal.moves-init
-moves-init c = (omega arith, omega arith, passing-starts _ _ _ _ _ c.requires.standing)
+pub visit_move-requires-clause-there : goal.visit_move-requires-clause-there
+visit_move-requires-clause-there c = (grown-there _ _ _ _ _ _ c.loop-j.invariant.passing.grown _ (omega arith), omega arith, omega arith)
 
-pub source_at-requires : goal.source_at-requires
-source_at-requires c = transition-there _ _ c.requires.good_table _ (omega arith)
-
-pub visit_move-requires : goal.visit_move-requires
-visit_move-requires c =
-    let p = c.requires in
-    let v = c.moves.invariant.2 in
+pub loop-j-preserved-then-source-state : goal.loop-j-preserved-then-source-state
+loop-j-preserved-then-source-state c =
+    let k = c.loop-j.invariant in
     record {
-      good_table = p.good_table;
-      standing = v.grown.standing;
-      i_lt_rows = (grown-there _ _ _ _ _ _ v.grown _ (omega arith), omega arith, omega arith, omega arith, omega arith);
+      w_length = k.w_length;
+      buffer_length = k.buffer_length;
+      passing = passing-by _ _ c.args.table.now.good _ _ _ _ _ _ _ k.passing (omega arith) (omega arith) _ _ c.state_of-state.ensures c.source.ensures c.if-source-state.true;
     }
 
-pub moves-preserved-in-On : goal.moves-preserved-in-On
-moves-preserved-in-On c =
-    let p = c.requires in
-    let v = c.moves.invariant.2 in
-    (omega arith, omega arith, passing-on _ _ _ _ _ _ _ _ v (omega arith) _ _ _ c.in-On.is (omega (arith, moves-length _ _ p.good_table)) c.visit_move.ensures)
+pub loop-j-preserved : goal.loop-j-preserved
+loop-j-preserved c =
+    let k = c.loop-j.invariant in
+    let e : room_of (length c.loop-j.w) ≡ room_of (length c.args.w.now) = ap room_of k.w_length in
+    record {
+      w_length = omega arith;
+      buffer_length = omega arith;
+      passing = passing-on _ _ _ _ _ _ _ _ k.passing (omega arith) _ _ _ c.in-Ok.is (omega (arith, moves-length _ _ c.args.table.now.good)) (rw e at c.visit_move.ensures);
+    }
 
-pub returns-in-Ends : goal.returns-in-Ends
-returns-in-Ends c =
-    let p = c.requires in
-    let v = c.moves.invariant.2 in
-    passing-cut _ _ _ _ _ _ _ _ v (omega arith) _ _ _ c.in-Ends.is (omega (arith, moves-length _ _ p.good_table)) c.visit_move.ensures
-
-pub moves-preserved : goal.moves-preserved
-moves-preserved c =
-    let v = c.moves.invariant.2 in
-    (omega arith, omega arith, passing-by _ _ c.requires.good_table _ _ _ _ _ _ _ v (omega arith) (omega arith) _ _ c.state_of-state.ensures c.source_at.ensures c.if-source_at-state.false)
+pub returns-in-Err : goal.returns-in-Err
+returns-in-Err c =
+    let k = c.loop-j.invariant in
+    let e : room_of (length c.loop-j.w) ≡ room_of (length c.args.w.now) = ap room_of k.w_length in
+    passing-cut _ _ _ _ _ _ _ _ k.passing (omega arith) _ _ _ c.in-Err.is (omega (arith, moves-length _ _ c.args.table.now.good)) (rw e at c.visit_move.ensures)
 
 pub returns : goal.returns
-returns c =
-    let p = c.requires in
-    let v = c.moves.invariant.2 in
-    passing-ends _ _ _ _ _ _ _ _ v (omega arith) (omega (arith, moves-length _ _ p.good_table))
+returns c = passing-ends _ _ _ _ _ _ _ _ c.loop-j.invariant.passing (omega arith) (omega (arith, moves-length _ _ c.args.table.now.good))

@@ -1,46 +1,33 @@
-use Rattle.search.proofs.PassLaws.{walking-starts, walking_on, walking-cut, walking-ends}
+use Rattle.std.proofs.Common.{◌≡◌, length, ap, arith}
+use Rattle.std.proofs.lemmas.Result.{err_from_is_err_and}
+use Rattle.work.specs.Room.{room_of}
+use Rattle.work.proofs.RoomLaws.{room-few}
+use Rattle.search.proofs.PassLaws.{walking_on, walking-cut, walking-ends}
 use Rattle.search.proofs.VisitLaws.{few_rows}
-use native.Mathlib.Omega.{arith}
 use Rattle.search.proofs.passes.walk_rows.Goals as goal
 
-pub loop-i-init : goal.loop-i-init
-loop-i-init c =
-    let p = c.requires in
-    (omega arith, omega arith, walking-starts _ _ _ _ p.standing)
-
-pub pass_row-requires : goal.pass_row-requires
-pass_row-requires c =
-    let p = c.requires in
-    let v = c.loop-i.invariant.2 in
-    record {
-      good_table = p.good_table;
-      standing = v.grown.standing;
-      i_lt_rows = (omega arith, omega arith, omega arith, omega arith);
-    }
-
 pub overflow_add-i : goal.overflow_add-i
-overflow_add-i c =
-    let p = c.requires in
-    let v = c.loop-i.invariant.2 in
-    omega (arith, few_rows _ _ p.good_table _ _ _ v.grown.standing)
+overflow_add-i c = omega (arith, few_rows _ _ c.args.table.now.good _ _ _ c.loop-i.invariant.walking.grown.standing, room-few (length c.args.w.now))
 
 pub loop-i-smaller : goal.loop-i-smaller
-loop-i-smaller c =
-    let p = c.requires in
-    let v = c.loop-i.invariant.2 in
-    omega (arith, few_rows _ _ p.good_table _ _ _ v.grown.standing)
+loop-i-smaller c = omega (arith, few_rows _ _ c.args.table.now.good _ _ _ c.loop-i.invariant.walking.grown.standing, room-few (length c.args.w.now))
 
 pub loop-i-preserved : goal.loop-i-preserved
 loop-i-preserved c =
-    let v = c.loop-i.invariant.2 in
-    (omega arith, omega arith, walking_on _ _ _ _ _ _ _ v _ _ _ c.in-Through.is (omega arith) c.pass_row.ensures)
+    let k = c.loop-i.invariant in
+    let e : room_of (length c.loop-i.w) ≡ room_of (length c.args.w.now) = ap room_of k.w_length in
+    record {
+      w_length = omega arith;
+      buffer_length = omega arith;
+      walking = walking_on _ _ _ _ _ _ _ k.walking _ _ _ c.in_ok-made.was (omega arith) (rw e at c.pass_row.ensures);
+    }
 
-pub returns-in-Ended : goal.returns-in-Ended
-returns-in-Ended c =
-    let v = c.loop-i.invariant.2 in
-    walking-cut _ _ _ _ _ _ _ v _ _ _ _ _ c.in-Ended.is (omega arith) c.pass_row.ensures
+pub returns-in_err-made : goal.returns-in_err-made
+returns-in_err-made c =
+    let k = c.loop-i.invariant in
+    let e : room_of (length c.loop-i.w) ≡ room_of (length c.args.w.now) = ap room_of k.w_length in
+    let p = err_from_is_err_and c.from_residual.result c.from_residual.ensures.1 in
+    rw (p.1, p.2) (walking-cut _ _ _ _ _ _ _ k.walking _ _ _ c.in_err-made.was (omega arith) (rw e at c.pass_row.ensures))
 
 pub returns : goal.returns
-returns c =
-    let v = c.loop-i.invariant.2 in
-    walking-ends _ _ _ _ _ _ _ v (omega arith)
+returns c = walking-ends _ _ _ _ _ _ _ c.loop-i.invariant.walking (omega arith)

@@ -1,20 +1,15 @@
-use Rattle.search.proofs.RunLaws.{needed-none, run_length, run-written}
-use native.Mathlib.Omega.{arith}
-use borrow.Author.Rules.{rules}
+use Rattle.std.proofs.Common.{sym, ◌∙◌, length-take-le}
+use Rattle.search.proofs.RunLaws.{run-fits, run-written}
 use Rattle.search.proofs.runs.write_run.Goals as goal
 
-pub rebuild-at-requires : goal.rebuild-at-requires
-rebuild-at-requires c =
-    let p = c.requires in
-    record {
-      good_table = (p.0, p.1, omega arith, omega arith, omega arith);
-      needed = (needed-none, search rules);
-    }
+pub slice_bounds-copy_from_slice-end : goal.slice_bounds-copy_from_slice-end
+slice_bounds-copy_from_slice-end c = run-fits c.rebuild-rebuilt.result _ _ _ c.standing-words.ensures c.rebuild-rebuilt.ensures.few_words c.requires.room
 
-pub returns : goal.returns
-returns c =
-    let r = c.rebuild-at.ensures in
-    record {
-      value = run_length _ _ _ (search rules) r.words_after;
-      run_after = run-written _ _ _ _ _ r.words_after c.copy_front.ensures;
-    }
+pub slice_bounds-copy_from_slice-end-2 : goal.slice_bounds-copy_from_slice-end-2
+slice_bounds-copy_from_slice-end-2 c = sym (length-take-le _ _ (run-fits c.rebuild-rebuilt.result _ _ _ c.standing-words.ensures c.rebuild-rebuilt.ensures.few_words c.requires.room))
+
+pub copy_from_slice-requires : goal.copy_from_slice-requires
+copy_from_slice-requires c = length-take-le _ _ (run-fits c.rebuild-rebuilt.result _ _ _ c.standing-words.ensures c.rebuild-rebuilt.ensures.few_words c.requires.room)
+
+pub returns-clause-words : goal.returns-clause-words
+returns-clause-words c = run-written _ _ _ _ (c.standing-words.ensures ∙ c.rebuild-rebuilt.ensures.words) c.copy_from_slice.ensures.after

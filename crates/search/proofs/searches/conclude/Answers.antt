@@ -3,7 +3,7 @@ use Rattle.search.proofs.StandingLaws.{entries-count}
 use Rattle.search.proofs.searches.conclude.Goals as goal
 
 pub returns-in-Unsafe : goal.returns-in-Unsafe
-returns-in-Unsafe c = conclude-unsafe _ _ _ (entries-count _ _ _) _ _ _ _ _ _ c.in-Unsafe.is c.write_run-steps.ensures.value c.write_run-steps.ensures.run_after
+returns-in-Unsafe c = conclude-unsafe _ _ _ (entries-count _ _ _) _ _ _ _ _ _ c.in-Unsafe.is c.write_run-steps.ensures.steps c.write_run-steps.ensures.words
 
 pub returns-in-AtomsFull : goal.returns-in-AtomsFull
 returns-in-AtomsFull c = conclude-atoms _ _ _ (entries-count _ _ _) _ _ _ _ c.in-AtomsFull.is

@@ -1,12 +1,9 @@
+use Rattle.std.proofs.Common.{sym}
+use Rattle.std.proofs.lemmas.Result.{err_from_is_err_and}
 use Rattle.search.proofs.SearchLaws.{searches-refused}
-use mathlib.Core.Path.{sym, ◌∙◌}
 use Rattle.search.proofs.searches.search.Goals as goal
 
-pub returns-in-Refused : goal.returns-in-Refused
-returns-in-Refused c = searches-refused _ _ _ _ _ (sym c.in-Refused.is ∙ c.check_table.ensures)
-
-pub search_good-requires : goal.search_good-requires
-search_good-requires c = sym c.check_table.ensures ∙ c.in-Good.is
-
-pub returns-in-Good : goal.returns-in-Good
-returns-in-Good c = c.search_good.ensures
+pub returns-in_err-table : goal.returns-in_err-table
+returns-in_err-table c =
+    let p = err_from_is_err_and c.from_residual.result c.from_residual.ensures.1 in
+    rw (p.1, p.2) (searches-refused _ _ _ _ (sym c.in_err-table.ensures.answer))

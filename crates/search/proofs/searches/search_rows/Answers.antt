@@ -1,35 +1,35 @@
-use Rattle.search.proofs.SearchLaws.{start-stands, leaves-safe, end-stands, end_row, end-move, leaves-ended}
+use Rattle.std.proofs.Common.{◌≡◌, ◌∙◌, ap, refl, length, arith}
 use Rattle.table.proofs.GoodLaws.{ranges}
-use native.Mathlib.Omega.{arith}
+use Rattle.work.specs.Room.{room_of}
+use Rattle.work.proofs.RoomLaws.{room-one}
+use Rattle.search.proofs.SearchLaws.{start-stands, leaves-safe, end-stands, end_row, end-move, leaves-ended}
 use Rattle.search.proofs.searches.search_rows.Goals as goal
 
-pub word-requires : goal.word-requires
-word-requires c =
-    let p = c.requires in
-    omega (arith, (ranges _ _ p.0).start, (ranges _ _ p.0).states)
+pub overflow_cast-table : goal.overflow_cast-table
+overflow_cast-table c = omega (arith, (ranges _ _ c.args.table.now.good).start, (ranges _ _ c.args.table.now.good).states)
 
-pub walk_rows-requires : goal.walk_rows-requires
-walk_rows-requires c =
+pub walk_rows-requires-clause-standing : goal.walk_rows-requires-clause-standing
+walk_rows-requires-clause-standing c =
     let p = c.requires in
-    record {
-      good_table = p.0;
-      standing = start-stands _ _ p.0 _ p.1 _ _ _ c.word.ensures c.start_row.ensures;
-      room_in_bounds = (omega arith, omega arith, omega arith);
-    }
+    let e : room_of (length c.start_row.new.w) ≡ room_of (length c.args.work.now) = ap room_of c.start_row.auto.w in
+    rw e (start-stands _ _ c.args.table.now.good _ (room-one _ p.0) _ _ _ refl c.start_row.ensures)
 
-pub returns-in-Safe : goal.returns-in-Safe
-returns-in-Safe c =
+pub conclude-requires-clause-there : goal.conclude-requires-clause-there
+conclude-requires-clause-there c =
     let p = c.requires in
-    leaves-safe _ _ p.0 _ p.1 _ _ _ c.word.ensures c.start_row.ensures _ _ c.walk_rows.ensures _ _ c.in-Safe.is
+    let e : room_of (length c.start_row.new.w) ≡ room_of (length c.args.work.now) = ap room_of c.start_row.auto.w in
+    let f : room_of (length c.walk_rows.new.w) ≡ room_of (length c.args.work.now) = ap room_of (c.walk_rows.auto.w ∙ c.start_row.auto.w) in
+    let d = rw e at c.walk_rows.ensures in
+    (rw f (end-stands _ _ c.args.table.now.good _ (room-one _ p.0) _ _ _ refl c.start_row.ensures _ _ d _ c.in-Err.is), end_row _ _ c.args.table.now.good _ (room-one _ p.0) _ _ _ refl c.start_row.ensures _ _ d _ c.in-Err.is, end-move _ _ c.args.table.now.good _ (room-one _ p.0) _ _ _ refl c.start_row.ensures _ _ d _ c.in-Err.is)
 
-pub conclude-requires : goal.conclude-requires
-conclude-requires c =
+pub returns-in-Ok : goal.returns-in-Ok
+returns-in-Ok c =
     let p = c.requires in
-    let d = c.walk_rows.ensures in
-    let z = c.in-Ended.is in
-    (p.0, end-stands _ _ p.0 _ p.1 _ _ _ c.word.ensures c.start_row.ensures _ _ d _ _ _ _ z, end_row _ _ p.0 _ p.1 _ _ _ c.word.ensures c.start_row.ensures _ _ d _ _ _ _ z, omega arith, end-move _ _ p.0 _ p.1 _ _ _ c.word.ensures c.start_row.ensures _ _ d _ _ _ _ z, omega arith)
+    let e : room_of (length c.start_row.new.w) ≡ room_of (length c.args.work.now) = ap room_of c.start_row.auto.w in
+    leaves-safe _ _ c.args.table.now.good _ (room-one _ p.0) _ _ _ refl c.start_row.ensures _ _ (rw e at c.walk_rows.ensures) _ _ c.in-Ok.is
 
-pub returns-in-Ended : goal.returns-in-Ended
-returns-in-Ended c =
+pub returns-in-Err : goal.returns-in-Err
+returns-in-Err c =
     let p = c.requires in
-    leaves-ended _ _ p.0 _ p.1 _ _ _ c.word.ensures c.start_row.ensures _ _ c.walk_rows.ensures _ _ _ _ c.in-Ended.is _ _ _ c.conclude.ensures.answer c.conclude.ensures.words
+    let e : room_of (length c.start_row.new.w) ≡ room_of (length c.args.work.now) = ap room_of c.start_row.auto.w in
+    leaves-ended _ _ c.args.table.now.good _ (room-one _ p.0) _ _ _ refl c.start_row.ensures _ _ (rw e at c.walk_rows.ensures) _ c.in-Err.is _ _ _ c.conclude.ensures

@@ -1,5 +1,5 @@
 -- The number stands at the bad state's fixed place.
-use native.Mathlib.Omega.{arith}
+use Rattle.std.proofs.Common.{arith}
 use Rattle.reader.proofs.RecordLaws.{part-fits}
 use Rattle.table.proofs.PlaceLaws.{bad-is}
 use Rattle.table.proofs.bads.bad_at.Goals as goal

@@ -1,5 +1,4 @@
-use Prim.Native.Nat.{◌-◌}
-use lib.ListN.{length}
+use Rattle.std.proofs.Common.{◌-◌, length}
 use Rattle.table.proofs.TurnLaws.{AtBad}
 use Rattle.table.proofs.checks.check_bads.Given as goal
 

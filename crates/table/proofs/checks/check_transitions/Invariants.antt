@@ -1,5 +1,4 @@
-use Prim.Native.Nat.{◌-◌}
-use lib.ListN.{length}
+use Rattle.std.proofs.Common.{◌-◌, length}
 use Rattle.table.proofs.TurnLaws.{AtTransition}
 use Rattle.table.proofs.checks.check_transitions.Given as goal
 

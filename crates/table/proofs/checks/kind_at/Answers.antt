@@ -1,6 +1,5 @@
 -- Each return goes through the test by what led there.
-use mathlib.Core.Path.{refl}
-use native.Mathlib.Omega.{arith}
+use Rattle.std.proofs.Common.{Some, refl, ap, arith}
 use Rattle.common.proofs.ChoiceLaws.{lt-then, lt-else}
 use Rattle.table.specs.Checking.{kind_at}
 use Rattle.table.proofs.checks.kind_at.Goals as goal
@@ -11,4 +10,4 @@ returns-then-t-at-lt4 c = lt-then _ _ _ _ (omega arith) refl
 
 pub returns : goal.returns
 unfolding kind_at
-returns c = lt-else _ _ _ _ (omega arith) c.number_at.ensures
+returns c = lt-else _ _ _ _ (omega arith) (ap Some c.number_at.ensures)

@@ -1,6 +1,5 @@
 -- Each return goes through the chain of tests by what led there.
-use mathlib.Core.Path.{refl}
-use native.Mathlib.Omega.{arith}
+use Rattle.std.proofs.Common.{refl, arith}
 use Rattle.common.proofs.ChoiceLaws.{lt-then, lt-else}
 use Rattle.table.specs.Fields.{header_fields}
 use Rattle.table.proofs.fields.header_fields.Goals as goal

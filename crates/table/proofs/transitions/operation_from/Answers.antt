@@ -1,6 +1,5 @@
 -- Each return goes through the chain of tests by what led there.
-use mathlib.Core.Path.{refl}
-use native.Mathlib.Omega.{arith}
+use Rattle.std.proofs.Common.{refl, arith}
 use Rattle.common.proofs.ChoiceLaws.{eq-then, eq-else}
 use Rattle.table.specs.Transitions.{operation_from}
 use Rattle.table.proofs.transitions.operation_from.Goals as goal

@@ -1,5 +1,5 @@
 -- The source stands first in the transition's payload.
-use native.Mathlib.Omega.{arith}
+use Rattle.std.proofs.Common.{arith}
 use Rattle.reader.proofs.RecordLaws.{part-fits}
 use Rattle.table.proofs.PlaceLaws.{source_is}
 use Rattle.table.proofs.transitions.source_at.Goals as goal

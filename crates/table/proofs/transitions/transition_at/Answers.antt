@@ -1,5 +1,5 @@
 -- The numbers stand at the transition's fixed place.
-use native.Mathlib.Omega.{arith}
+use Rattle.std.proofs.Common.{arith}
 use Rattle.reader.proofs.RecordLaws.{part-fits}
 use Rattle.table.proofs.PlaceLaws.{transition-is}
 use Rattle.table.proofs.transitions.transition_at.Goals as goal

@@ -1,15 +1,9 @@
-use native.Mathlib.Omega.{arith}
-use Rattle.wording.proofs.StepLaws.{telling-starts, telling-on, telling-ends}
+use Rattle.std.proofs.Common.{arith}
+use Rattle.wording.proofs.StepLaws.{telling-starts, telling-on}
 use Rattle.wording.proofs.steps.run_lines.Goals as goal
 
-pub loop-i-init : goal.loop-i-init
-loop-i-init c = telling-starts _ _ _ _ _ (omega arith)
+pub loop-word-init : goal.loop-word-init
+loop-word-init c = telling-starts _ _ _ _ (omega arith)
 
-pub step_line-next-requires : goal.step_line-next-requires
-step_line-next-requires c = (c.requires.0, omega (arith, c.loop-i.invariant.low, c.loop-i.invariant.same))
-
-pub loop-i-preserved : goal.loop-i-preserved
-loop-i-preserved c = telling-on _ _ _ _ _ _ _ _ _ _ c.loop-i.invariant (omega arith) (omega arith) c.step_line-next.ensures
-
-pub returns : goal.returns
-returns c = telling-ends _ _ _ _ _ _ _ _ c.loop-i.invariant (omega arith)
+pub loop-word-preserved : goal.loop-word-preserved
+loop-word-preserved c = telling-on _ _ _ _ _ _ _ _ _ c.loop-word.invariant c.loop-word-test.true c.step_line-next.ensures

@@ -1,5 +1,4 @@
-use mathlib.Core.Path.{refl}
-use native.Mathlib.Omega.{arith}
+use Rattle.std.proofs.Common.{refl, arith}
 use Rattle.common.proofs.ChoiceLaws.{lt-then}
 use Rattle.writer.specs.Fitting.{channel_passes}
 use Rattle.writer.proofs.FitLaws.{channel-passes}
@@ -10,4 +9,4 @@ unfolding channel_passes
 returns-then-count-gt24 c = lt-then _ _ _ _ (omega arith) refl
 
 pub returns : goal.returns
-returns c = channel-passes _ _ _ _ _ _ c.count_of-count.ensures (omega arith) c.all_atoms.ensures
+returns c = channel-passes _ _ _ _ _ (omega arith) (cc)

@@ -1,16 +1,15 @@
--- The invariant: the rows so far pass.
-use native.Mathlib.Omega.{arith}
-use Rattle.writer.proofs.TestLaws.{passing-starts, passing-on, passing-not, passing-ends}
+use Rattle.std.proofs.Common.{◌≡◌, Option, Some, None, option_map, ℕ, refl, sym, ◌∙◌, not, arith, rules, tests}
+use Rattle.std.proofs.lemmas.Iterator.{YieldsList-from_range}
+use Rattle.std.proofs.lemmas.Iterator.Search.{find_from_yields_List}
+use Rattle.writer.specs.Fitting.{row_passes}
+use Rattle.writer.proofs.TestLaws.{find-range}
 use Rattle.writer.proofs.fitting.first_unfit.Goals as goal
 
-pub loop-i-init : goal.loop-i-init
-loop-i-init c = passing-starts _ _
-
-pub loop-i-preserved : goal.loop-i-preserved
-loop-i-preserved c = passing-on _ c.loop-i.invariant (omega arith) (cc)
-
-pub returns-else-row_passes : goal.returns-else-row_passes
-returns-else-row_passes c = passing-not _ c.loop-i.invariant (omega arith) (cc)
+same-option : (o : Option ℕ) → option_map (λ x. x) o ≡ o
+same-option (Some i) = refl
+same-option None = refl
 
 pub returns : goal.returns
-returns c = passing-ends _ c.loop-i.invariant (omega arith)
+returns c =
+    let e = find_from_yields_List (λ j. not (row_passes c.args.table.now.shape c.args.work.now j)) _ _ c.find.result c.find.ensures.ran (YieldsList-from_range 0 c.args.rows c.args.rows refl (omega arith)) (λ x b q k. search (rules, tests)) in
+    sym (same-option c.find.result) ∙ e ∙ find-range (row_passes c.args.table.now.shape c.args.work.now) c.args.rows 0

@@ -1,13 +1,16 @@
-use mathlib.Core.Path.{refl}
-use native.Mathlib.Omega.{arith}
+use Rattle.std.proofs.Common.{arith, le-ltb}
 use Rattle.common.proofs.ChoiceLaws.{lt-else}
+use Rattle.table.proofs.GoodLaws.{ranges}
 use Rattle.writer.specs.Fitting.{row_passes}
 use Rattle.writer.proofs.FitLaws.{row-passes}
 use Rattle.writer.proofs.fitting.row_passes.Goals as goal
 
-pub returns-then-s-state : goal.returns-then-s-state
-unfolding row_passes
-returns-then-s-state c = lt-else _ _ _ _ (omega arith) refl
+pub channels_pass-requires : goal.channels_pass-requires
+channels_pass-requires c = let h = ranges _ _ c.args.table.now.good in (h.channels, h.messages)
 
-pub returns : goal.returns
-returns c = row-passes _ _ _ _ _ c.state_of-state.ensures (omega arith) c.channels_pass.ensures
+pub returns-then-state-s : goal.returns-then-state-s
+returns-then-state-s c = row-passes _ _ _ _ _ c.state.ensures (omega arith) c.channels_pass.ensures
+
+pub returns-else-state-s : goal.returns-else-state-s
+unfolding row_passes
+returns-else-state-s c = lt-else _ _ _ _ (omega arith) (le-ltb _ _ (omega arith))

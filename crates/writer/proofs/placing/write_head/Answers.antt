@@ -1,4 +1,4 @@
-use native.Mathlib.Omega.{arith}
+use Rattle.std.proofs.Common.{arith}
 use Rattle.writer.proofs.PlaceLaws.{head-written}
 use Rattle.writer.proofs.placing.write_head.Goals as goal
 

@@ -1,9 +1,5 @@
-use Prim.Native.Nat.{◌-◌}
 use Rattle.writer.proofs.SizeLaws.{ListSizing}
 use Rattle.writer.proofs.sizes.list_size.Given as goal
 
 abbrev pub invariant-loop-i : goal.invariant-loop-i
 invariant-loop-i l = ListSizing l.channels l.work l.rows l.i l.size
-
-abbrev pub decreases-loop-i : goal.decreases-loop-i
-decreases-loop-i l = l.rows - l.i

@@ -1,5 +1,0 @@
-use Prim.Native.Nat.{◌+◌, ◌-◌}
-use Rattle.atoms.proofs.products.+contained_at.Given as goal
-
-abbrev pub decreases-contained_at : goal.decreases-contained_at
-decreases-contained_at l = (l.pe - l.pa) + (l.qe - l.qa)

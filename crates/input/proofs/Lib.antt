@@ -1,2 +1,0 @@
--- Laws of reading, for the proofs beside them.
-pub mod ReadLaws
