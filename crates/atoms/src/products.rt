@@ -55,7 +55,8 @@ fn kept_before(p: &[u16], n: usize, x: u16) -> usize
     0
 }
 
-// Adds x behind the first n atoms, which are in normal form, and brings all to normal form. Answers how many they are.
+// Adds x behind the first n atoms, which are in normal form, and brings all to normal form. Answers how many they are. Memory and count stay two: the
+// memory is lent by callers that read its first words afterwards, and a struct would be made and taken apart around each call.
 pub fn add_atom(p: &mut [u16], n: usize, x: u16) -> usize
     requires n_in_bounds { n < length p.old }
     requires p_value { normal (part 0 n p.old) ≡ part 0 n p.old }

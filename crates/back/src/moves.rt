@@ -10,7 +10,7 @@ use crate::needs::Needs;
 use crate::tails::Tail;
 use table::{Operation, Table};
 
-// Back over a self-loop send with the run word x. Inner.
+// Back over a self-loop send with the run word x: as often as a message drops. Inner.
 fn strip_sends(needs: &mut Needs, channel: usize, message: usize, run: &mut Tail, x: u16)
     requires few_needed { (channel < 4) × Needed 2047 needs.old }
     requires room { length (needed needs.old channel) - length (stripped message (needed needs.old channel)) ≤ run.old.at }

@@ -1,5 +1,7 @@
 // What the channels must hold, in local memory: 2,048 places for each of 4 channels, filled from the last place down, and the ends of what stands
-// there. The heads stand in the first four places of the ends, the tails in the next four.
+// there. The heads stand in the first four places of the ends, the tails in the next four, as the shared definition of the channels'
+// contents reads them. The replay has a struct of the same parts: its methods fill the channels from their first place, and a type has methods in its own
+// crate alone.
 ghost use Rattle.std.specs.Prelude.{◌<◌};
 ghost use Rattle.back.specs.Needs.{Needed, PutFront, DropLast};
 

@@ -10,8 +10,12 @@ use wording::Line;
 use wording::lines::fault_line;
 
 // Writes the whole output for a good table.
-fn write_good(table: &Table, work: &mut [u16], run: &mut [u16], out: &mut [u8]) -> usize
-    requires { (length work.old ≡ 26368) × (length run.old ≡ 512) × (length out.old ≡ 8192) }
+fn write_good(
+    table: &Table,
+    work: &mut [u16; 26368],
+    run: &mut [u16; 512],
+    out: &mut [u8; 8192],
+) -> usize
     ensures { Written out.old 0 (found_text table.now.bytes.now) out.new result }
 {
     let verdict = search_good(table, work, run);
@@ -19,8 +23,12 @@ fn write_good(table: &Table, work: &mut [u16], run: &mut [u16], out: &mut [u8]) 
 }
 
 // Writes the whole output for the input's bytes, and answers how many bytes that is. The longest table has 36,874.
-pub fn write_answer(t: &[u8], work: &mut [u16], run: &mut [u16], out: &mut [u8]) -> usize
-    requires { (length work.old ≡ 26368) × (length run.old ≡ 512) × (length out.old ≡ 8192) }
+pub fn write_answer(
+    t: &[u8],
+    work: &mut [u16; 26368],
+    run: &mut [u16; 512],
+    out: &mut [u8; 8192],
+) -> usize
     ensures { Written out.old 0 (output_of t.now) out.new result }
 {
     if 36874 < t.len() {

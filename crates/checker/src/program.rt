@@ -5,7 +5,7 @@ use crate::answers::write_answer;
 use input::read_input;
 use std::io::Read;
 
-// Writes to standard output, or says that it cannot.
+// Writes to standard output, or says that it cannot, in its own words: the other programs' function tells the reason too.
 fn write_output<R: Print + Eprint>(rt: &R, text: &[u8]) {
     if rt.write_all(text).is_ok() {
         return;
@@ -19,12 +19,10 @@ pub fn check_input<R: Print + Eprint, I: Read>(
     rt: &R,
     reader: &mut I,
     table: &mut [u8],
-    work: &mut [u16],
-    run: &mut [u16],
-    out: &mut [u8],
-)
-    requires { (length work.old ≡ 26368) × (length run.old ≡ 512) × (length out.old ≡ 8192) }
-{
+    work: &mut [u16; 26368],
+    run: &mut [u16; 512],
+    out: &mut [u8; 8192],
+) {
     match read_input(reader, table) {
         Ok(n) => {
             let size = write_answer(&table[..n], work, run, out);

@@ -1,4 +1,5 @@
-// The names of files, as the program's arguments have them.
+// The names of files, as the program's arguments have them. Handles, argument and what it is for stay parameters of four functions: a struct of them
+// would borrow the handles anew for each call.
 ghost use Rattle.std.specs.Prelude.{◌≤◌, length, IfOk};
 
 use crate::failing::say_failure;

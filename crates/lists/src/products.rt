@@ -8,7 +8,8 @@ use atoms::masks::is_atom;
 use reader::numbers::byte_at;
 use table::Fault;
 
-// A record: where it starts, where its payload ends, and how many messages the table has.
+// A record: where it starts, where its payload ends, and how many messages the table has. The bounds that each function asks stand in its clauses:
+// the definitions of what is read take a frame and the list apart, and hold for frames that are out of bounds too.
 #[derive(Clone, Copy, Debug, PartialEq, Eq)]
 pub struct Frame {
     pub at: usize,

@@ -29,6 +29,7 @@ fn frame_at(list: &[u8], at: usize, i: usize) -> Result<usize, Fault>
     let size = number_at(list, at);
     let kind = number_at(list, at + 2);
     let payload = left - 4;
+    // A list's records have no other kind, so that an enum of kinds would have one.
     if kind != 16 {
         return Err(Fault::Kind);
     }

@@ -1,4 +1,5 @@
-// The outcome of a move, channel by channel: only the channel that it changes is copied, and brought to normal form there.
+// The outcome of a move, channel by channel: only the channel that it changes is copied, and brought to normal form there. The buffer for it is a slice of
+// at least 25 words and no array, as in the search: sent_into, received_into and outcome_into are public, and an array would ask more of their callers.
 ghost use Rattle.std.specs.Prelude.{◌≡◌, ℕ, ◌<◌, ◌≤◌, length};
 ghost use Rattle.atoms.specs.Normal.{normal};
 ghost use Rattle.atoms.specs.Receive.{received};

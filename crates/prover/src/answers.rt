@@ -62,8 +62,14 @@ fn write_listed(listed: Result<usize, Refused>, out: &mut [u8], at: usize) -> Ou
 }
 
 // Makes text and list for a safe table, of the rows that the search made.
-fn write_safe(t: &[u8], work: &[u16], rows: usize, list: &mut [u8], out: &mut [u8]) -> Output
-    requires { (length list.old ≡ 206848) × (28732 ≤ length out.old) }
+fn write_safe(
+    t: &[u8],
+    work: &[u16],
+    rows: usize,
+    list: &mut [u8; 206848],
+    out: &mut [u8],
+) -> Output
+    requires { 28732 ≤ length out.old }
     ensures { Makes (listed (written t.now work.now rows 206848) (bytes_of t.now work.now rows) rows list.old) out.old out.new list.new result }
 {
     let listed = write_list(t, work, rows, list);
@@ -74,12 +80,12 @@ fn write_safe(t: &[u8], work: &[u16], rows: usize, list: &mut [u8], out: &mut [u
 // Makes text and list for a good table.
 fn write_good(
     table: &Table,
-    work: &mut [u16],
-    run: &mut [u16],
-    list: &mut [u8],
+    work: &mut [u16; 105472],
+    run: &mut [u16; 2048],
+    list: &mut [u8; 206848],
     out: &mut [u8],
 ) -> Output
-    requires { (length work.old ≡ 105472) × (length run.old ≡ 2048) × (length list.old ≡ 206848) × (28732 ≤ length out.old) }
+    requires { 28732 ≤ length out.old }
     ensures { Makes (found table.now.bytes.now work.old list.old) out.old out.new list.new result }
 {
     let verdict = search_good(table, work, run);
@@ -93,12 +99,12 @@ fn write_good(
 // Makes text and list for the bytes of a table.
 pub fn write_answer(
     t: &[u8],
-    work: &mut [u16],
-    run: &mut [u16],
-    list: &mut [u8],
+    work: &mut [u16; 105472],
+    run: &mut [u16; 2048],
+    list: &mut [u8; 206848],
     out: &mut [u8],
 ) -> Output
-    requires { (length work.old ≡ 105472) × (length run.old ≡ 2048) × (length list.old ≡ 206848) × (28732 ≤ length out.old) }
+    requires { 28732 ≤ length out.old }
     ensures { Makes (made t.now work.old list.old) out.old out.new list.new result }
 {
     if 36874 < t.len() {

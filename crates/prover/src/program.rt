@@ -30,12 +30,12 @@ pub fn prove_file<R: Env + Files + Print, E: Print>(
     rt: &R,
     errors: &E,
     table: &mut [u8],
-    work: &mut [u16],
-    run: &mut [u16],
-    list: &mut [u8],
+    work: &mut [u16; 105472],
+    run: &mut [u16; 2048],
+    list: &mut [u8; 206848],
     out: &mut [u8],
 ) -> io::Result<()>
-    requires { (length work.old ≡ 105472) × (length run.old ≡ 2048) × (length list.old ≡ 206848) × (28732 ≤ length out.old) }
+    requires { 28732 ≤ length out.old }
 {
     let n = read_named(rt, errors, 1, b"table", table)?;
     check_named(rt, errors, 2, b"list")?;

@@ -54,7 +54,8 @@ pub struct Cut {
     pub at: usize,
 }
 
-// The walk over all records, whatever their kinds: how many there are, or the one inside which the bytes end.
+// The walk over all records, whatever their kinds: how many there are, or the one inside which the bytes end. No `for`: each record says where the
+// next one stands.
 pub fn walk_records(t: &[u8]) -> Result<usize, Cut>
     ensures { result ≡ walk_records t.now }
 {

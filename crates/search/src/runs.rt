@@ -15,7 +15,8 @@ use back::tails::Tail;
 use table::Table;
 use work::reading::{move_of, parent_of};
 
-// Goes back from the row where the search ended to row 0, and puts the words of each move in front of those that stand. Inner.
+// Goes back from the row where the search ended to row 0, and puts the words of each move in front of those that stand. No `for`: each row says which
+// one it was made from. Inner.
 fn back_to_start(table: &Table, w: &[u16], end: Ended, needs: &mut Needs, run: &mut Tail)
     requires there { Stands (system_of table.now.bytes.now) w.now end.rows × (end.row < end.rows) }
     requires few_needed { Needed 1 needs.old }

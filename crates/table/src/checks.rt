@@ -109,7 +109,7 @@ fn transition_step(t: &[u8], h: Header, at: usize, count: usize) -> Result<bool,
     Ok(true)
 }
 
-// The transitions, from place 10 on: how many there are. The walk ends at the first bad state, or at the table's end.
+// The transitions, from place 10 on: how many there are. No `for`: where they end is seen only at the record that stands there. The walk ends at the first bad state, or at the table's end.
 fn check_transitions(t: &[u8], h: Header) -> Result<usize, Refusal>
     ensures { result ≡ scan_transitions 1025 t.now h 0 }
 {
@@ -137,7 +137,7 @@ fn bad_step(t: &[u8], states: usize, at: usize, low: usize) -> Result<usize, Fau
     bad_fields(number_at(payload_from(t, at), 0), states, low)
 }
 
-// The bad states, from a place on: how many there are.
+// The bad states, from a place on: how many there are. No `for`: the last bytes can be part of a record, which is a fault of their own.
 fn check_bads(t: &[u8], states: usize, from: usize) -> Result<usize, Refusal>
     ensures { result ≡ scan_bads (length t.now) t.now states from 0 0 }
 {

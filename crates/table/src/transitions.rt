@@ -24,21 +24,20 @@ pub struct Transition {
 }
 
 // The operation that a transition's numbers name: 0 quiet, 1 send; any other is taken as 2, receive.
-pub fn operation_from(e: Entry) -> Operation
-    ensures { result ≡ operation_from e }
-{
-    if e.operation == 0 {
-        return Operation::Quiet;
-    }
-    if e.operation == 1 {
-        return Operation::Send {
-            channel: e.channel,
-            message: e.message,
-        };
-    }
-    Operation::Receive {
-        channel: e.channel,
-        message: e.message,
+impl From<Entry> for Operation {
+    ghost from_gives = { λ entry operation. operation ≡ operation_from entry };
+
+    fn from(entry: Entry) -> Operation {
+        let Entry {
+            channel,
+            message,
+            ..
+        } = entry;
+        match entry.operation {
+            0 => Operation::Quiet,
+            1 => Operation::Send { channel, message },
+            _ => Operation::Receive { channel, message },
+        }
     }
 }
 
@@ -48,7 +47,7 @@ pub fn transition_at(t: &[u8], i: usize) -> Transition
     ensures { result ≡ transition_at t.now i }
 {
     let e = entry_of(part_of(t, 10 + 12 * i, 8));
-    let operation = operation_from(e);
+    let operation = Operation::from(e);
     Transition {
         source: e.source,
         target: e.target,

@@ -8,4 +8,4 @@ pub entry_of-e-requires : goal.entry_of-e-requires
 entry_of-e-requires c = part-fits _ _ _ _ c.part_of.ensures (omega arith)
 
 pub returns : goal.returns
-returns c = transition-is _ _ c.operation_from-operation.ensures c.entry_of-e.ensures c.part_of.ensures
+returns c = transition-is _ _ c.from-operation.ensures c.entry_of-e.ensures c.part_of.ensures
