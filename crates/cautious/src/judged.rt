@@ -23,7 +23,7 @@ pub enum NotAccepted {
     NotSafe(Result<Verdict, search::searches::Refused>),
 }
 
-// Has the first bytes of the list judged. Inner.
+// Has the first bytes of the list judged. How many stays a parameter, since it is answered too. Inner.
 fn judge_bytes(t: &[u8], rows: usize, list: &[u8], bytes: usize) -> Result<Accepted, NotAccepted>
     requires { bytes ≤ length list.now }
     ensures { result ≡ by_judge rows bytes (judge_of t.now (take bytes list.now)) }

@@ -20,12 +20,11 @@ pub enum NotReached {
     NotUnsafe(Result<Verdict, search::searches::Refused>),
 }
 
-// Has the first words of the run replayed. Inner.
-fn replay_words(t: &[u8], rows: usize, run: &[u16], steps: usize) -> Result<Reached, NotReached>
-    requires { steps ≤ length run.now }
-    ensures { result ≡ by_replay rows (replay_of t.now (take steps run.now)) }
+// Has a run replayed, found with so many rows. Inner.
+fn replay_words(t: &[u8], rows: usize, run: &[u16]) -> Result<Reached, NotReached>
+    ensures { result ≡ by_replay rows (replay_of t.now run.now) }
 {
-    match replay(t, &run[..steps]) {
+    match replay(t, run) {
         Ok(Ending::Bad(steps)) => Ok(Reached { rows, steps }),
         answer => Err(NotReached::Denied(answer)),
     }
@@ -36,7 +35,7 @@ pub fn search_and_replay(t: &[u8], work: &mut [u16], run: &mut [u16]) -> Result<
     ensures { ReplaysSearch t.now work.old run.old result work.new run.new }
 {
     match search(t, work, run) {
-        Ok(Verdict::Unsafe { rows, steps }) => replay_words(t, rows, run, steps),
+        Ok(Verdict::Unsafe { rows, steps }) => replay_words(t, rows, &run[..steps]),
         answer => Err(NotReached::NotUnsafe(answer)),
     }
 }

@@ -12,9 +12,10 @@ use std::rt::Files;
 use wording::texts::write_bytes;
 
 // Writes to standard output, or says why it cannot. Inner.
-pub fn write_output<R: Print, E: Print>(rt: &R, errors: &E, text: &[u8]) -> io::Result<()> {
-    rt.write_all(text)
-        .inspect_err(|error| say_failure(errors, b"standard output", error))
+pub fn write_output<R: Print, E: Print>(rt: &R, errors: &E, text: &[u8]) {
+    if let Err(error) = rt.write_all(text) {
+        say_failure(errors, b"standard output", &error);
+    }
 }
 
 // Writes all bytes to the file, and closes it. What a late write would tell where the file is closed is asked for before, since a file that is

@@ -5,7 +5,7 @@ ghost use Rattle.judge.specs.Look.{product_at, row_at, Sized};
 use lists::product_number;
 
 // The state of each row; the atoms of all products, one after the other; and where those of each product begin: the atoms of channel c of row r stand from
-// starts[r * channels + c] up to the next start.
+// starts[r * channels + c] up to the next start. Three arrays, since the judge's memory is fixed and no heap is used.
 #[derive(Clone, Copy)]
 pub struct Rows<'a> {
     pub states: &'a [usize],

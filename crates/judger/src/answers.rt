@@ -1,4 +1,5 @@
-// What is said of a table's bytes and a list's.
+// What is said of a table's bytes and a list's. The output stays a slice of at least 80 bytes: docs/CONTRACTS.md names write_answer, and an array would ask
+// more of its callers.
 ghost use Rattle.std.specs.Prelude.{◌≡◌, ◌≤◌, length, Ok};
 ghost use Rattle.judge.specs.Judging.{answer_of};
 ghost use Rattle.wording.specs.Written.{Written};

@@ -12,6 +12,5 @@ fn main(rt: HostRuntime) {
     let mut table = [0u8; 36875];
     let mut list = [0u8; 206849];
     let mut out = [0u8; 80];
-    // What failed is said by now, and the status says no more.
-    let _ = judge_files(&rt, &rt.stderr(), &mut table, &mut list, &mut out);
+    judge_files(&rt, &rt.stderr(), &mut table, &mut list, &mut out);
 }

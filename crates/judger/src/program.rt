@@ -9,7 +9,7 @@ use std::rt::Files;
 
 // Reads the table, then the list, and writes what is said of both. Where one cannot be read nothing is said, since the bytes may be only
 // part of it.
-pub fn judge_files<R: Env + Files + Print, E: Print>(
+fn try_judge<R: Env + Files + Print, E: Print>(
     rt: &R,
     errors: &E,
     table: &mut [u8],
@@ -21,5 +21,19 @@ pub fn judge_files<R: Env + Files + Print, E: Print>(
     let n = read_named(rt, errors, 1, b"table", table)?;
     let m = read_named(rt, errors, 2, b"list", list)?;
     let size = write_answer(&table[..n], &list[..m], out);
-    write_output(rt, errors, &out[..size])
+    write_output(rt, errors, &out[..size]);
+    Ok(())
+}
+
+// The same; what failed is said by then, and the status says no more.
+pub fn judge_files<R: Env + Files + Print, E: Print>(
+    rt: &R,
+    errors: &E,
+    table: &mut [u8],
+    list: &mut [u8],
+    out: &mut [u8],
+)
+    requires { 80 ≤ length out.old }
+{
+    let _ = try_judge(rt, errors, table, list, out);
 }

@@ -1,4 +1,5 @@
-// What is made of a table's bytes.
+// What is made of a table's bytes. The output stays a slice of at least 28,732 bytes: docs/CONTRACTS.md names write_answer, and an array would ask more of
+// its callers. Refusals are written as numbers, as every caller sees them.
 ghost use Rattle.std.specs.Prelude.{◌≡◌, ◌+◌, ◌≤◌, length, Err};
 ghost use Rattle.wording.specs.Written.{Written};
 ghost use Rattle.writer.specs.Answers.{answer};

@@ -21,12 +21,13 @@ fn write_made<R: Env + Files + Print, E: Print>(
     if let Some(bytes) = output.list {
         write_named(rt, errors, 2, b"list", &list[..bytes])?;
     }
-    write_output(rt, errors, &out[..output.text])
+    write_output(rt, errors, &out[..output.text]);
+    Ok(())
 }
 
 // Reads the table and writes what is made of it, where the list has a name. Where the table cannot be read nothing is said of it, since the bytes
 // may be only part of it.
-pub fn prove_file<R: Env + Files + Print, E: Print>(
+fn try_prove<R: Env + Files + Print, E: Print>(
     rt: &R,
     errors: &E,
     table: &mut [u8],
@@ -41,4 +42,19 @@ pub fn prove_file<R: Env + Files + Print, E: Print>(
     check_named(rt, errors, 2, b"list")?;
     let output = write_answer(&table[..n], work, run, list, out);
     write_made(rt, errors, output, list, out)
+}
+
+// The same; what failed is said by then, and the status says no more.
+pub fn prove_file<R: Env + Files + Print, E: Print>(
+    rt: &R,
+    errors: &E,
+    table: &mut [u8],
+    work: &mut [u16; 105472],
+    run: &mut [u16; 2048],
+    list: &mut [u8; 206848],
+    out: &mut [u8],
+)
+    requires { 28732 ≤ length out.old }
+{
+    let _ = try_prove(rt, errors, table, work, run, list, out);
 }

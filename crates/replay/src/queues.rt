@@ -7,7 +7,8 @@ ghost use Rattle.replay.specs.Queues.{Queues, can_lose, Done};
 use table::Operation;
 
 // 2,048 places for each of 4 channels, which no run fills, and the ends of what waits there: the heads stand in the first four places of the
-// ends, the tails in the next four.
+// ends, the tails in the next four, as the shared definition of the channels' contents reads them. The rebuilt run has a struct of the same two parts: that is all they
+// share, since its channels are filled from their last place and have other methods.
 #[derive(Drop)]
 pub struct Memory {
     store: [u8; 8192],

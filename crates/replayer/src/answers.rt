@@ -1,4 +1,5 @@
-// What is said of a table's bytes and a text's.
+// What is said of a table's bytes and a text's. The output stays a slice of at least 80 bytes: docs/CONTRACTS.md names write_answer, and an array would ask
+// more of its callers. Refusals are written as numbers, as every caller sees them.
 ghost use Rattle.std.specs.Prelude.{◌≡◌, ◌≤◌, length, Ok};
 ghost use Rattle.replay.specs.Replaying.{answer_of};
 ghost use Rattle.table.specs.Checking.{check_table};

@@ -14,8 +14,7 @@ fn main(rt: HostRuntime) {
     let mut text = [0u8; 28733];
     let mut words = [0u16; 28733];
     let mut out = [0u8; 80];
-    // What failed is said by now, and the status says no more.
-    let _ = replay_input(
+    replay_input(
         &rt,
         &rt.stderr(),
         &mut rt.stdin(),

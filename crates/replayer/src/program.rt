@@ -10,7 +10,7 @@ use std::rt::Files;
 
 // Reads the table, then the text, and writes what is said of both. Where one cannot be read nothing is said, since the bytes may be only
 // part of it.
-pub fn replay_input<R: Env + Files + Print, E: Print, I: Read>(
+fn try_replay<R: Env + Files + Print, E: Print, I: Read>(
     rt: &R,
     errors: &E,
     reader: &mut I,
@@ -24,5 +24,21 @@ pub fn replay_input<R: Env + Files + Print, E: Print, I: Read>(
     let n = read_named(rt, errors, 1, b"table", table)?;
     let m = read_standard(reader, errors, text)?;
     let size = write_answer(&table[..n], &text[..m], words, out);
-    write_output(rt, errors, &out[..size])
+    write_output(rt, errors, &out[..size]);
+    Ok(())
+}
+
+// The same; what failed is said by then, and the status says no more.
+pub fn replay_input<R: Env + Files + Print, E: Print, I: Read>(
+    rt: &R,
+    errors: &E,
+    reader: &mut I,
+    table: &mut [u8],
+    text: &mut [u8],
+    words: &mut [u16],
+    out: &mut [u8],
+)
+    requires { (28732 ≤ length words.old) × (80 ≤ length out.old) }
+{
+    let _ = try_replay(rt, errors, reader, table, text, words, out);
 }

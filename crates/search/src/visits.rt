@@ -24,7 +24,8 @@ pub enum Stop {
     RowsFull,
 }
 
-// Work table and count of rows stay two parameters: the words are lent to be written, and each call answers how many rows there are then.
+// Work table and count of rows stay two parameters: the words are lent to be written, and each call answers how many rows there are then. The buffer is a
+// slice of at least 25 words and no array: visit_move and walk_rows are public, and an array would ask more of their callers.
 
 // The tests of the outcome of a transition. It is bad; contained in a row; too wide; there is no room; else it is appended. Answers how many rows there
 // are then, or why the search ends. Inner.

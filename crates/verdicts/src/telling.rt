@@ -1,4 +1,4 @@
-// What is said of a verdict.
+// What is said of a verdict. Refusals are written as numbers, as every caller sees them.
 ghost use Rattle.std.specs.Prelude.{◌+◌, ◌*◌, ◌≤◌, length, Ok};
 ghost use Rattle.table.specs.Systems.{system_of};
 ghost use Rattle.wording.specs.Lines.{refused_line};

@@ -49,7 +49,7 @@ fn write_products(fit: &FitRow, list: &mut [u8], at: usize)
     }
 }
 
-// Writes a record's payload length, its kind, and the row's state. Inner.
+// Writes a record's payload length, its kind, and the row's state. A list's records have one kind, so no enum names it. Inner.
 fn write_head(list: &mut [u8], at: usize, size: u16, state: u16)
     requires { at + 6 ≤ length list.old }
     ensures { list.new ≡ put_at list.old at (number_bytes size ++ (number_bytes 16 ++ number_bytes state)) }
