@@ -1,8 +1,9 @@
 -- An atom added behind a normal product: only the end of the product is looked at.
 use Rattle.std.proofs.Common.{◌≡◌, refl, sym, ap, subst, ◌∙◌, true, false, List, [], ◌∷◌, ◌++◌, append_assoc, ℕ, zero, suc, ◌+◌, ◌-◌, ◌<◌, ◌≤◌, arith, length, get_or, take, set}
-use lib.Seq.{take-take, drop-set-lt}
+use lib.Seq.{take-take, length-take-le, drop-set-lt}
+use Rattle.std.proofs.lemmas.List.{get_or-take}
 use Rattle.common.specs.Part.{part}
-use Rattle.common.proofs.PartLaws.{part_none, part-snoc, part-take, part-set}
+use Rattle.common.proofs.PartLaws.{part_none, part-snoc, part-take, part-all, part-set}
 use Rattle.atoms.specs.Masks.{absorbs, Atoms}
 use Rattle.atoms.specs.Normal.{Removal, before, behind, later, Removals, done, more, push, normal}
 use Rattle.atoms.specs.Ranges.{KeptBefore, Added}
@@ -97,11 +98,25 @@ module _ (p : List ℕ) (k : ℕ) (some : 0 < k) (l : k ≤ length p) where
   pub kept_again : (x : ℕ) {q : List ℕ} → absorbs x (get_or p (k - 1) 0) ≡ true → normal (part 0 k p ++ (x ∷ [])) ≡ q → normal (part 0 (k - 1) p ++ (x ∷ [])) ≡ q
   kept_again x e h = last-gone (part 0 (k - 1) p) (get_or p (k - 1) 0) x e ∙ rw first-last at h
 
+-- What stays of the first n as a list of their own stays of them.
+kept_front : (p : List ℕ) (n x k : ℕ) → n ≤ length p → KeptBefore (take n p) (length (take n p)) x k → KeptBefore p n x k
+kept_front p n x k l b =
+    let e : length (take n p) ≡ n = length-take-le n p l in
+    record {
+      few = omega (arith, b.few);
+      same = ap (λ (s : List ℕ). normal (s ++ (x ∷ []))) (part-take k p ∙ sym (take-take k n p (omega (arith, b.few))) ∙ sym (part-take k (take n p))) ∙ b.same
+          ∙ ap (λ (s : List ℕ). normal (s ++ (x ∷ []))) (part-all (take n p) ∙ sym (part-take n p));
+      stays = λ z. ap (absorbs x) (sym (get_or-take n p (k - 1) 0 (omega (arith, b.few)))) ∙ b.stays z;
+    }
+
 -- The first k of a normal product are normal.
 front-fixed : (p : List ℕ) (k n : ℕ) → k ≤ n → normal (part 0 n p) ≡ part 0 n p → normal (part 0 k p) ≡ part 0 k p
 front-fixed p k n few fixed = rw (part-take k p, ← take-take k n p few) (fixed-take k (take n p) (rw (part-take n p) at fixed))
 
-module _ (p : List ℕ) (n x k : ℕ) (l : n < length p) (fixed : normal (part 0 n p) ≡ part 0 n p) (b : KeptBefore p n x k) where
+module _ (p : List ℕ) (n x k : ℕ) (l : n < length p) (fixed : normal (part 0 n p) ≡ part 0 n p) (front : KeptBefore (take n p) (length (take n p)) x k) where
+  b : KeptBefore p n x k
+  b = kept_front p n x k (omega arith) front
+
   -- None stays before x.
   pub added-alone : k ≡ 0 → Added p n x (set p 0 x) 1
   added-alone z =
@@ -144,3 +159,5 @@ module _ (p : List ℕ) (n x k : ℕ) (l : n < length p) (fixed : normal (part 0
               ∙ ap (λ (q : List ℕ). normal (q ++ (x ∷ []))) (sym f) ∙ b.same;
           kept = drop-set-lt (n + 1) p k x (omega (arith, b.few));
         }
+
+pub ruleset adding = (added-alone, added_none)

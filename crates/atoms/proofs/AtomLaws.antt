@@ -187,3 +187,5 @@ star-one m h = ap (bit_or 32768) (shift_one m h) ∙ or_shifted 1 15 (2 ^ m) (po
 pub atoms-of : (n : ℕ) (p : List ℕ) → AtomsOf n p → Atoms p
 atoms-of n [] h = tt
 atoms-of n (a ∷ p) h = (h.0.atom, atoms-of n p h.1)
+
+pub ruleset one_message = (shift_one, star-one)

@@ -1,10 +1,7 @@
 -- Containment of lists of masks is containment of their words.
 use Rattle.std.proofs.Common.{◌≡◌, refl, sym, ap, ◌∙◌, Bool, true, false, ◌⊎◌, inl, inr, ◌↔◌, List, [], ◌∷◌, ℕ, ◌-◌, ◌<◌, ◌≤◌, arith, length, get_or, take, drop}
 use mathlib.Core.Logic.Iff
-use Rattle.std.specs.List.{between}
 use Rattle.std.proofs.lemmas.Slice.{first_rest}
-use Rattle.common.specs.Part.{part}
-use Rattle.common.proofs.CopyLaws.{part-range}
 use Rattle.common.proofs.BoolLaws.{either, clash}
 use Rattle.common.proofs.ChoiceLaws.{true-then, true-else}
 use Rattle.meaning.specs.Products.{Contained}
@@ -96,10 +93,6 @@ module _ (p q : List ℕ) (hp : 1 ≤ length p) where
     pub rest-both : {r : Bool} → sub (get_or p 0 0) (get_or q 0 0) ≡ true → star (get_or q 0 0) ≡ false → r ≡ contained (rest p) (rest q) → r ≡ contained p q
     rest-both x y e = e ∙ drop-both _ _ _ _ x y ∙ heads
 
--- Ranges, as slices read them.
-pub contained_ranges : (p q : List ℕ) (pa pe qa qe : ℕ) → contained (between pa pe p) (between qa qe q) ≡ contained (part pa pe p) (part qa qe q)
-contained_ranges p q pa pe qa qe = rw (part-range pa pe p, part-range qa qe q) refl
-
 -- ---- a product contains itself, by the test alone
 
 -- What has one atom more in front contains what it contained, if that holds for the rest of p.
@@ -128,3 +121,5 @@ contained-self (a ∷ p) = go (contained-self p) (either (star a))
     go : contained p p ≡ true → (star a ≡ true) ⊎ (star a ≡ false) → contained (a ∷ p) (a ∷ p) ≡ true
     go ih (inl y) = sym (drop_here a a p p (sub_self a) y) ∙ contained-wider p a p ih
     go ih (inr y) = sym (drop-both a a p p (sub_self a) y) ∙ ih
+
+pub ruleset head_tells = (empty-here, empty-there, rest-here, rest-there, rest-both)

@@ -1,5 +1,5 @@
 -- Masks and the sets they mean: message, star flag and subset as masks are those of the sets.
-use Rattle.std.proofs.Common.{◌≡◌, sym, ap, subst, ◌∙◌, Bool, true, false, not, ◌⊎◌, inl, inr, ⊎_elim, ◌↔◌, ℕ, ◌/◌, ◌%◌, ◌*◌, ◌^◌, ◌<◌, arith, eqb, ltb, eqb-true, eq-eqb, ne_eqb, ltb-true, ltb-false, lt-ltb}
+use Rattle.std.proofs.Common.{◌≡◌, sym, ap, subst, ◌∙◌, true, false, not, ◌⊎◌, inl, inr, ⊎_elim, ◌↔◌, ℕ, ◌/◌, ◌%◌, ◌*◌, ◌^◌, ◌<◌, arith, eqb, ltb, eqb-true, eq-eqb, ne_eqb, ltb-true, ltb-false, lt-ltb}
 use lib.Bits.{bit_and, and_mask, and_high}
 use borrow.Author.Tests.{eqb-false}
 use Rattle.common.proofs.BoolLaws.{either, clash, and-true}
@@ -92,10 +92,4 @@ pub absorbs-parts : (b a : ℕ) → (absorbs b a ≡ true) ↔ ((star b ≡ true
 unfolding absorbs
 absorbs-parts b a = (and-true (star b) (sub a b), λ r. rw (r.0, r.1))
 
-pub absorbs-star : (b a : ℕ) {r : Bool} → star b ≡ true → r ≡ sub a b → r ≡ absorbs b a
-unfolding absorbs
-absorbs-star b a x h = rw x h
-
-pub absorbs-single : (b a : ℕ) → star b ≡ false → false ≡ absorbs b a
-unfolding absorbs
-absorbs-single b a x = rw x
+pub ruleset mask_tells = (star-mask, has-mask)

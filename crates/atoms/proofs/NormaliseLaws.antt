@@ -1,6 +1,6 @@
 -- The loop that brings a product to normal form, atom by atom.
-use Rattle.std.proofs.Common.{◌≡◌, refl, sym, ap, subst, ◌∙◌, List, [], ◌∷◌, ◌++◌, ℕ, ◌+◌, ◌-◌, ◌<◌, ◌≤◌, arith, add-zero, length, get_or, take, drop}
-use lib.Seq.{take-take, drop-drop, get_or-drop}
+use Rattle.std.proofs.Common.{◌≡◌, refl, sym, ap, subst, ◌∙◌, List, [], ◌∷◌, ◌++◌, ℕ, ◌+◌, ◌-◌, ◌<◌, ◌≤◌, arith, add-zero, length, get_or, drop}
+use lib.Seq.{drop-drop, get_or-drop}
 use Rattle.common.specs.Part.{part}
 use Rattle.common.proofs.PartLaws.{part_none, part-snoc, part-take}
 use Rattle.common.proofs.EachLaws.{each_take}
@@ -11,20 +11,20 @@ use Rattle.atoms.proofs.NormalLaws.{normal-chain}
 use Rattle.atoms.proofs.AddLaws.{chain-fixed, normal-first}
 
 -- After i atoms: the first k places hold the normal form of the first i, and those from i on are as they were.
-pub record Going (l : List ℕ) (n : ℕ) (p : List ℕ) (k i : ℕ) : Type 0 where
+pub record Going (l p : List ℕ) (k i : ℕ) : Type 0 where
   pub low : k ≤ i
-  pub high : i ≤ n
+  pub high : i ≤ length l
   pub same : length p ≡ length l
   pub form : part 0 k p ≡ normal (part 0 i l)
   pub kept : drop i p ≡ drop i l
 
-pub going-starts : (l : List ℕ) (n : ℕ) → Going l n l 0 0
+pub going-starts : (l : List ℕ) → Going l l 0 0
 unfolding normal
-going-starts l n = record { low = omega arith; high = omega arith; same = refl; form = rw (part_none 0 0 l (omega arith)) refl; kept = refl }
+going-starts l = record { low = omega arith; high = omega arith; same = refl; form = rw (part_none 0 0 l (omega arith)) refl; kept = refl }
 
 -- What stands in the first k places is normal.
-pub going-fixed : (l : List ℕ) (n : ℕ) (p : List ℕ) (k i : ℕ) → Going l n p k i → normal (part 0 k p) ≡ part 0 k p
-going-fixed l n p k i g = rw g.form (chain-fixed (normal (part 0 i l)) (normal-chain (part 0 i l)))
+pub going-fixed : (l p : List ℕ) (k i : ℕ) → Going l p k i → normal (part 0 k p) ≡ part 0 k p
+going-fixed l p k i g = rw g.form (chain-fixed (normal (part 0 i l)) (normal-chain (part 0 i l)))
 
 drop_more : (i k : ℕ) (p q : List ℕ) → k ≤ i → drop k p ≡ drop k q → drop i p ≡ drop i q
 drop_more i k p q h e =
@@ -37,9 +37,9 @@ drop-first i p q e = sym (at p) ∙ ap (λ (l : List ℕ). get_or l 0 0) e ∙ a
     at : (l : List ℕ) → get_or (drop i l) 0 0 ≡ get_or l i 0
     at l = get_or-drop i l 0 0 ∙ ap (λ (n : ℕ). get_or l n 0) (add-zero i)
 
-pub going_on : (l : List ℕ) (n : ℕ) (p : List ℕ) (k i : ℕ) (q : List ℕ) (r : ℕ) → Going l n p k i → i < n → n ≤ length l → Atoms (part 0 n l)
-    → Added p k (get_or p i 0) q r → length q ≡ length p → Going l n q r (i + 1)
-going_on l n p k i q r g h m a t s =
+pub going_on : (l p : List ℕ) (k i : ℕ) (q : List ℕ) (r : ℕ) → Going l p k i → i < length l → Atoms l → Added p k (get_or p i 0) q r → length q ≡ length p
+    → Going l q r (i + 1)
+going_on l p k i q r g h a t s =
     record {
       low = omega (arith, t.few, g.low);
       high = omega arith;
@@ -53,11 +53,11 @@ going_on l n p k i q r g h m a t s =
     next = part-snoc 0 i l (omega arith) (omega arith)
 
     atoms : Atoms (part 0 i l ++ (get_or l i 0 ∷ []))
-    atoms =
-        subst Atoms (take-take (i + 1) n l (omega arith) ∙ sym (part-take (i + 1) l) ∙ next)
-        (each_take IsAtom (i + 1) (take n l) (subst Atoms (part-take n l) a))
+    atoms = subst Atoms (sym (part-take (i + 1) l) ∙ next) (each_take IsAtom (i + 1) l a)
 
-pub going-ends : (l : List ℕ) (n : ℕ) (p : List ℕ) (k i : ℕ) → Going l n p k i → n ≤ i → Normalised l n p k
-going-ends l n p k i g h =
-    let e : i ≡ n = omega (arith, g.high) in
+pub going-ends : (l p : List ℕ) (k i : ℕ) → Going l p k i → length l ≤ i → Normalised l (length l) p k
+going-ends l p k i g h =
+    let e : i ≡ length l = omega (arith, g.high) in
     record { few = omega (arith, g.low); form = rw e at g.form; kept = rw e at g.kept }
+
+pub ruleset going = (going-starts, going-fixed, going-ends)

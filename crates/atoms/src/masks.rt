@@ -1,9 +1,11 @@
-// Atoms as masks in a u16: bit 15 marks a star, bits 0 to 14 are messages.
+// Atoms as masks in a u16: bit 15 marks a star, bits 0 to 14 are messages. A message stays a plain number with the clause m < 15, and how many messages a
+// table has one with n ≤ 15: operations, shapes and C's calls hold plain numbers, so that a type would be made around each call and read once.
 ghost use Rattle.std.specs.Prelude.{◌≡◌, ◌<◌, ◌≤◌};
 ghost use Rattle.std.specs.List.{list_all};
 ghost use Rattle.atoms.specs.Masks.{star, has, sub, absorbs, atom_test, single_of, star_of};
 
 // The atom is a star.
+#[tactic(auto, using(crate::proofs::MaskLaws::mask_tells))]
 pub fn is_star(a: u16) -> bool
     ensures { result ≡ star a }
 {
@@ -11,6 +13,7 @@ pub fn is_star(a: u16) -> bool
 }
 
 // The message m is in the atom.
+#[tactic(auto, using(crate::proofs::MaskLaws::mask_tells))]
 pub fn has_message(a: u16, m: usize) -> bool
     requires { m < 15 }
     ensures { result ≡ has a m }
@@ -19,6 +22,7 @@ pub fn has_message(a: u16, m: usize) -> bool
 }
 
 // Every message of a is in b, and b is a star where a is.
+#[tactic(auto, unfolding(crate::specs::Masks::sub))]
 pub fn within(a: u16, b: u16) -> bool
     ensures { result ≡ sub a b }
 {
@@ -26,6 +30,7 @@ pub fn within(a: u16, b: u16) -> bool
 }
 
 // b is a star that has all messages of a.
+#[tactic(auto, unfolding(crate::specs::Masks::absorbs))]
 pub fn is_absorbed(a: u16, b: u16) -> bool
     ensures { result ≡ absorbs b a }
 {
@@ -33,6 +38,7 @@ pub fn is_absorbed(a: u16, b: u16) -> bool
 }
 
 // a is an atom of a table with n messages.
+#[tactic(auto, using(common::proofs::ChoiceLaws::choices), unfolding(crate::specs::Masks::atom_test))]
 pub fn is_atom(a: u16, n: usize) -> bool
     requires { n ≤ 15 }
     ensures { result ≡ atom_test n a }
@@ -53,6 +59,7 @@ pub fn all_atoms(p: &[u16], n: usize) -> bool
 }
 
 // The single of m.
+#[tactic(auto, using(crate::proofs::AtomLaws::one_message))]
 pub fn single_of(m: usize) -> u16
     requires { m < 15 }
     ensures { result ≡ single_of m }
@@ -61,6 +68,7 @@ pub fn single_of(m: usize) -> u16
 }
 
 // The star of m alone.
+#[tactic(auto, using(crate::proofs::AtomLaws::one_message))]
 pub fn star_of(m: usize) -> u16
     requires { m < 15 }
     ensures { result ≡ star_of m }

@@ -11,6 +11,7 @@ ghost use Rattle.atoms.specs.Normal.{normal};
 use crate::masks::{has_message, is_absorbed, is_star, within};
 
 // Every word of p is a word of q. Each step drops the head of one or the other, or both.
+#[tactic(auto, using(crate::proofs::ContainedLaws::head_tells))]
 pub fn contained(p: &[u16], q: &[u16]) -> bool
     ensures { result ≡ contained p.now q.now }
 {
@@ -42,12 +43,13 @@ pub fn received(p: &[u16], m: usize) -> Option<&[u16]>
     Some(&p[first + 1..])
 }
 
-// How many of the first n atoms stay in front of x: those at the end that x absorbs go.
-fn kept_before(p: &[u16], n: usize, x: u16) -> usize
-    requires { n ≤ length p.now }
-    ensures { KeptBefore p.now n x result }
+// How many atoms of p stay in front of x: those at the end that x absorbs go. No rposition: of its place one more would be made, and 0 where it has none,
+// which is no plainer; tried and proved, it made searches up to a tenth slower too.
+#[tactic(auto, using(crate::proofs::AddLaws::kept_again))]
+fn kept_before(p: &[u16], x: u16) -> usize
+    ensures { KeptBefore p.now (length p.now) x result }
 {
-    for last in (0..n).rev() {
+    for last in (0..p.len()).rev() {
         if !is_absorbed(p[last], x) {
             return last + 1;
         }
@@ -55,14 +57,15 @@ fn kept_before(p: &[u16], n: usize, x: u16) -> usize
     0
 }
 
-// Adds x behind the first n atoms, which are in normal form, and brings all to normal form. Answers how many they are. Memory and count stay two: the
-// memory is lent by callers that read its first words afterwards, and a struct would be made and taken apart around each call.
+// Adds x behind the first n atoms, which are in normal form, and brings all to normal form. Answers how many they are. The count stays beside the
+// memory: x may go to the place behind the first n, which a slice of these n would not lend.
+#[tactic(auto, using(crate::proofs::AddLaws::adding))]
 pub fn add_atom(p: &mut [u16], n: usize, x: u16) -> usize
     requires n_in_bounds { n < length p.old }
     requires p_value { normal (part 0 n p.old) ≡ part 0 n p.old }
     ensures { Added p.old n x p.new result }
 {
-    let k = kept_before(p, n, x);
+    let k = kept_before(&p[..n], x);
     if k == 0 {
         p[0] = x;
         return 1;
@@ -74,14 +77,14 @@ pub fn add_atom(p: &mut [u16], n: usize, x: u16) -> usize
     k + 1
 }
 
-// Brings the first n atoms to normal form, and answers how many they are.
-pub fn normalise(p: &mut [u16], n: usize) -> usize
-    requires n_in_bounds { n ≤ length p.old }
-    requires atoms { Atoms (part 0 n p.old) }
-    ensures { Normalised p.old n p.new result }
+// Brings the atoms to normal form, in the first places, and answers how many they are.
+#[tactic(auto, using(crate::proofs::NormaliseLaws::going))]
+pub fn normalise(p: &mut [u16]) -> usize
+    requires { Atoms p.old }
+    ensures { Normalised p.old (length p.old) p.new result }
 {
     let mut k = 0;
-    for i in 0..n {
+    for i in 0..p.len() {
         let x = p[i];
         k = add_atom(p, k, x);
     }

@@ -5,6 +5,7 @@ use Rattle.common.specs.Part.{part}
 use Rattle.meaning.specs.Systems.{Contents, put}
 use Rattle.channels.specs.Contents.{head_of, tail_of, contents_in}
 use Rattle.findings.specs.Rebuild.{Back, ends_with, all_but_last}
+use Rattle.back.specs.declared.moves.Rebuilding.{Rebuilding}
 use Rattle.back.specs.declared.needs.Needs.{Needs}
 use Rattle.back.specs.declared.tails.Tail.{Tail}
 
@@ -41,9 +42,9 @@ pub record Pushed (x : ℕ) (v v' : Tail) : Type 0 where
   pub place : v'.at + 1 ≡ v.at
   pub words : standing v' ≡ x ∷ standing v
 
--- Going back over a move, which b says, made the needs q' of q, and put its words in front of those that stood in v.
-pub record Went (b : Back) (q : Needs) (v : Tail) (q' : Needs) (v' : Tail) : Type 0 where
-  pub words : standing v' ≡ b.words ++ standing v
-  pub place : v'.at ≤ v.at
-  pub before : needed q' ≡ b.before
-  pub keeps : (n : ℕ) → Needed n q → Needed (n + 1) q'
+-- Going back over a move, which b says, made x' of x: its needs, and its words in front of those that stood there.
+pub record Went (b : Back) (x x' : Rebuilding) : Type 0 where
+  pub words : standing x'.run ≡ b.words ++ standing x.run
+  pub place : x'.run.at ≤ x.run.at
+  pub before : needed x'.needs ≡ b.before
+  pub keeps : (n : ℕ) → Needed n x.needs → Needed (n + 1) x'.needs

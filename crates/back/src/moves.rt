@@ -1,6 +1,6 @@
 // Going back over a move: a receive puts its message in front; a send drops it from the end if it stands there (kept), else the message was lost; a
 // self-loop send strips all that stand at the end, and becomes as many kept sends.
-ghost use Rattle.std.specs.Prelude.{true, false, ◌-◌, ◌<◌, ◌≤◌, length};
+ghost use Rattle.std.specs.Prelude.{◌≡◌, true, false, ◌-◌, ◌<◌, ◌≤◌, length};
 ghost use Rattle.meaning.specs.Systems.{send};
 ghost use Rattle.table.specs.Systems.{system_of};
 ghost use Rattle.findings.specs.Rebuild.{stripped, back, back_over};
@@ -8,53 +8,76 @@ ghost use Rattle.back.specs.Needs.{needed, Needed, Went};
 
 use crate::needs::Needs;
 use crate::tails::Tail;
+use playing::Step;
 use table::{Operation, Table};
 
-// Back over a self-loop send with the run word x: as often as a message drops. Inner.
-fn strip_sends(needs: &mut Needs, channel: usize, message: usize, run: &mut Tail, x: u16)
-    requires few_needed { (channel < 4) × Needed 2047 needs.old }
-    requires room { length (needed needs.old channel) - length (stripped message (needed needs.old channel)) ≤ run.old.at }
-    ensures { Went (back true (send channel message) x (needed needs.old)) needs.old run.old needs.new run.new }
-{
-    while needs.drop_last(channel, message) {
-        run.push(x);
-    }
+// A run that is rebuilt from its end: what the channels must hold before its words, and the words.
+#[derive(Drop)]
+pub struct Rebuilding {
+    pub needs: Needs,
+    pub run: Tail,
 }
 
-// Back over a send that is no self-loop, of transition j. Inner.
-fn back_send(needs: &mut Needs, channel: usize, message: usize, run: &mut Tail, j: usize)
-    requires { (channel < 4) × Needed 2047 needs.old × (0 < run.old.at) × (j < 32768) }
-    ensures { Went (back false (send channel message) j (needed needs.old)) needs.old run.old needs.new run.new }
-{
-    if needs.drop_last(channel, message) {
-        run.push(j as u16);
-        return;
-    }
-    run.push((j + 32768) as u16);
-}
-
-// Back over transition j. Inner.
-pub fn back_over(table: &Table, j: usize, needs: &mut Needs, run: &mut Tail)
-    requires there { j < table.now.shape.transitions }
-    requires few_needed { Needed 2047 needs.old }
-    requires room { length (back_over (system_of table.now.bytes.now) j (needed needs.old)).words ≤ run.old.at }
-    ensures { Went (back_over (system_of table.now.bytes.now) j (needed needs.old)) needs.old run.old needs.new run.new }
-{
-    let m = table.transition(j);
-    let operation = m.operation;
-    let word = j as u16;
-    match operation {
-        Operation::Quiet => run.push(word),
-        Operation::Send { channel, message } => {
-            if m.source == m.target {
-                strip_sends(needs, channel, message, run, word);
-            } else {
-                back_send(needs, channel, message, run, j);
-            }
+impl Rebuilding {
+    // The end: nothing is needed, and no word stands there. Inner.
+    pub fn new() -> Rebuilding
+        ensures no_needs { Needed 0 result.needs }
+        ensures no_words { result.run.at ≡ 2048 }
+    {
+        Rebuilding {
+            needs: Needs::none(),
+            run: Tail::new(),
         }
-        Operation::Receive { channel, message } => {
-            needs.put_front(channel, message);
-            run.push(word);
+    }
+
+    // Back over a self-loop send with the run word x: as often as a message drops. Inner.
+    fn strip_sends(&mut self, channel: usize, message: usize, x: u16)
+        requires few_needed { (channel < 4) × Needed 2047 self.old.needs }
+        requires room { length (needed self.old.needs channel) - length (stripped message (needed self.old.needs channel)) ≤ self.old.run.at }
+        ensures { Went (back true (send channel message) x (needed self.old.needs)) self.old self.new }
+    {
+        while self.needs.drop_last(channel, message) {
+            self.run.push(x);
+        }
+    }
+
+    // Back over a send that is no self-loop, of transition j: its message is lost where it is not needed. Inner.
+    fn back_send(&mut self, channel: usize, message: usize, j: usize)
+        requires { (channel < 4) × Needed 2047 self.old.needs × (0 < self.old.run.at) × (j < 32768) }
+        ensures { Went (back false (send channel message) j (needed self.old.needs)) self.old self.new }
+    {
+        let lost = !self.needs.drop_last(channel, message);
+        self.run.push(u16::from(Step {
+            transition: j,
+            lost,
+        }));
+    }
+
+    // Back over transition j. Inner.
+    pub fn back_over(&mut self, table: &Table, j: usize)
+        requires there { j < table.now.shape.transitions }
+        requires few_needed { Needed 2047 self.old.needs }
+        requires room { length (back_over (system_of table.now.bytes.now) j (needed self.old.needs)).words ≤ self.old.run.at }
+        ensures { Went (back_over (system_of table.now.bytes.now) j (needed self.old.needs)) self.old self.new }
+    {
+        let m = table.transition(j);
+        let word = u16::from(Step {
+            transition: j,
+            lost: false,
+        });
+        match m.operation {
+            Operation::Quiet => self.run.push(word),
+            Operation::Send { channel, message } => {
+                if m.source == m.target {
+                    self.strip_sends(channel, message, word);
+                } else {
+                    self.back_send(channel, message, j);
+                }
+            }
+            Operation::Receive { channel, message } => {
+                self.needs.put_front(channel, message);
+                self.run.push(word);
+            }
         }
     }
 }

@@ -1,7 +1,8 @@
 // What the channels must hold, in local memory: 2,048 places for each of 4 channels, filled from the last place down, and the ends of what stands
 // there. The heads stand in the first four places of the ends, the tails in the next four, as the shared definition of the channels'
-// contents reads them. The replay has a struct of the same parts: its methods fill the channels from their first place, and a type has methods in its own
-// crate alone.
+// contents reads them. The replay has a struct of the same parts: one type would have four methods of which each of the two uses two, and ends that move one
+// way for each. That few messages were put in front stays a clause of each method: with each move that is gone back over there can be one more, so that
+// a type would need the number of the move.
 ghost use Rattle.std.specs.Prelude.{◌<◌};
 ghost use Rattle.back.specs.Needs.{Needed, PutFront, DropLast};
 

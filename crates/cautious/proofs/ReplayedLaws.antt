@@ -1,6 +1,5 @@
 -- The answer of search and replay in a row: how it comes about.
-use Rattle.std.proofs.Common.{◌≡◌, refl, sym, ap, subst, ◌∙◌, List, ℕ, ◌≤◌, arith, length, take, drop, length-append, Ok, Err}
-use Rattle.std.proofs.Common as std
+use Rattle.std.proofs.Common.{◌≡◌, refl, sym, ap, subst, ◌∙◌, List, ℕ, ◌≤◌, arith, length, take, drop, length-append, Ok}
 use Rattle.common.specs.Front.{front}
 use Rattle.common.specs.Part.{part}
 use Rattle.common.proofs.FrontLaws.{front-part}
@@ -10,27 +9,8 @@ use Rattle.search.specs.Searching as search
 use Rattle.search.specs.declared.searches.Verdict.TheVariants as verdict
 use Rattle.search.proofs.SearchLaws.{Counted, search-counted}
 use Rattle.replay.specs.Replaying.{replay_of}
-use Rattle.replay.specs.declared.replays.Ending.{Ending}
-use Rattle.replay.specs.declared.replays.Ending.TheVariants as ending
-use Rattle.replay.specs.declared.replays.Refused as replay
 use Rattle.cautious.specs.Judged.{result_of, work_left}
 use Rattle.cautious.specs.Replayed.{Replayed, by_replay, run_said, ReplaysSearch}
-use Rattle.cautious.specs.declared.replayed.NotReached.TheVariants.{Denied, NotUnsafe}
-
--- ---- the arms of each match: the one answer that goes on, and all others
-
-pub run-denied : (n : ℕ) (a : std.Result Ending replay.Refused) → ((k : ℕ) → a ≡ Ok (ending.Bad k) → ⊥) → Err (Denied a) ≡ by_replay n a
-run-denied n (Err r) h = refl
-run-denied n (Ok (ending.Stuck i)) h = refl
-run-denied n (Ok (ending.Elsewhere q)) h = refl
-run-denied n (Ok (ending.Bad k)) h = absurd (h k refl)
-
-not-unsafe : (t run : List ℕ) (a : search.Answer) → ((n k : ℕ) → a ≡ Ok (verdict.Unsafe n k) → ⊥) → Err (NotUnsafe a) ≡ run_said t run a
-not-unsafe t run (Err r) h = refl
-not-unsafe t run (Ok (verdict.Safe n)) h = refl
-not-unsafe t run (Ok (verdict.Unsafe n k)) h = absurd (h n k refl)
-not-unsafe t run (Ok (verdict.RowsFull n i j)) h = refl
-not-unsafe t run (Ok (verdict.AtomsFull n i j)) h = refl
 
 -- ---- the call
 
@@ -41,9 +21,6 @@ front-holds xs l = omega (arith, length-append xs (drop (length xs) l))
 module _ (t work run : List ℕ) (a : search.Answer) (work' run' : List ℕ) (d : Searches t work run a work' run') where
   abbrev x : Result
   x = result_of t work run
-
-  pub replays-other : ((n k : ℕ) → a ≡ Ok (verdict.Unsafe n k) → ⊥) → ReplaysSearch t work run (Err (NotUnsafe a)) work' run'
-  replays-other h = record { answer = not-unsafe t x.run a h ∙ ap (run_said t x.run) d.answer; rows = d.rows; words = d.words }
 
   -- The run is as long as is said, and it is the words that are replayed.
   module _ (n k : ℕ) (e : a ≡ Ok (verdict.Unsafe n k)) where

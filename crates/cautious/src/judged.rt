@@ -1,5 +1,5 @@
 // Search, writer and judge in a row: safe comes only with a list that the judge accepted.
-ghost use Rattle.std.specs.Prelude.{◌≡◌, ◌≤◌, length, take};
+ghost use Rattle.std.specs.Prelude.{◌≡◌, length};
 ghost use Rattle.writer.specs.Writing.{written, left_by, bytes_of};
 ghost use Rattle.judge.specs.Judging.{judge_of};
 ghost use Rattle.cautious.specs.Judged.{by_judge, by_writer, JudgesSearch};
@@ -23,24 +23,25 @@ pub enum NotAccepted {
     NotSafe(Result<Verdict, search::searches::Refused>),
 }
 
-// Has the first bytes of the list judged. How many stays a parameter, since it is answered too. Inner.
-fn judge_bytes(t: &[u8], rows: usize, list: &[u8], bytes: usize) -> Result<Accepted, NotAccepted>
-    requires { bytes ≤ length list.now }
-    ensures { result ≡ by_judge rows bytes (judge_of t.now (take bytes list.now)) }
+// Has a list of so many rows judged. Inner.
+fn judge_bytes(t: &[u8], rows: usize, list: &[u8]) -> Result<Accepted, NotAccepted>
+    ensures { result ≡ by_judge rows (length list.now) (judge_of t.now list.now) }
 {
-    match judge(t, &list[..bytes]) {
+    let bytes = list.len();
+    match judge(t, list) {
         Ok(Judgement::Accepted) => Ok(Accepted { rows, bytes }),
         answer => Err(NotAccepted::Denied(answer)),
     }
 }
 
 // Writes the first rows of the work table as a list, and has it judged. Inner.
+#[tactic(auto, using(crate::proofs::JudgedLaws::list_tells))]
 fn judge_rows(t: &[u8], work: &[u16], rows: usize, list: &mut [u8]) -> Result<Accepted, NotAccepted>
     ensures value { result ≡ by_writer t.now rows (bytes_of t.now work.now rows) (written t.now work.now rows (length list.old)) }
     ensures list_after { list.new ≡ left_by (written t.now work.now rows (length list.old)) (bytes_of t.now work.now rows) list.old }
 {
     match write_list(t, work, rows, list) {
-        Ok(bytes) => judge_bytes(t, rows, list, bytes),
+        Ok(bytes) => judge_bytes(t, rows, &list[..bytes]),
         Err(refused) => Err(NotAccepted::Unwritten(refused)),
     }
 }

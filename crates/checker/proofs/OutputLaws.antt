@@ -1,4 +1,4 @@
--- What is said of an input, and that its text is the output.
+-- What is said of a verdict is what the search finds.
 use Rattle.std.proofs.Common.{◌≡◌, refl, sym, ap, subst, ◌∙◌, List, Result, Err, ℕ, ◌<◌, ◌≤◌, length}
 use Rattle.common.proofs.ChoiceLaws.{lt-then, lt-else}
 use Rattle.table.specs.Answers.{number_of, place_of}
@@ -24,16 +24,3 @@ module _ (t l m : List ℕ) (r : ℕ) where
       subst (λ (x : Answer). Written l 0 (answer_text (system_of t) x) m r)
       (left-says (search_of t (length work) (length run)) work run v work' run' d (search-counted t (length work) (length run)) ∙ ap (λ (n : ℕ). said_by (search_of t n (length run)).answer (search_of t n (length run)).run) a
       ∙ ap (λ (n : ℕ). said_by (search_of t 26368 n).answer (search_of t 26368 n).run) b) w
-
-  pub long-told : 36874 < length t → Written l 0 too_long_line m r → Written l 0 (output_of t) m r
-  unfolding output_of
-  long-told h w = subst (λ (a : Answer). Written l 0 (answer_text (system_of t) a) m r) (lt-then _ _ _ _ h refl) w
-
-  pub good-told : length t ≤ 36874 → Written l 0 (found_text t) m r → Written l 0 (output_of t) m r
-  unfolding output_of
-  good-told h w = subst (λ (a : Answer). Written l 0 (answer_text (system_of t) a) m r) (lt-else _ _ _ _ h refl) w
-
-  pub refused-told : (f : Refusal) → length t ≤ 36874 → check_table t ≡ Err f → Written l 0 (refused_line (number_of f.fault) (place_of f.fault f.at)) m r → Written l 0 (output_of t) m r
-  unfolding found search_of
-  refused-told f h e w =
-      good-told h (subst (λ (x : Result Shape Refusal). Written l 0 (answer_text (system_of t) (said_by (search_with t 26368 512 x).answer (search_with t 26368 512 x).run)) m r) (sym e) w)

@@ -1,13 +1,12 @@
-// What is said of the input's bytes.
+// What is said of the input's bytes. Work table, run buffer and output are lent apart: docs/CONTRACTS.md names write_answer, which takes them so.
 ghost use Rattle.std.specs.Prelude.{◌≡◌, length};
 ghost use Rattle.wording.specs.Written.{Written};
 ghost use Rattle.checker.specs.Output.{output_of, found_text};
 
 use search::searches::search_good;
 use table::Table;
-use verdicts::write_verdict;
+use verdicts::{write_refused, write_verdict};
 use wording::Line;
-use wording::lines::fault_line;
 
 // Writes the whole output for a good table.
 fn write_good(
@@ -23,6 +22,7 @@ fn write_good(
 }
 
 // Writes the whole output for the input's bytes, and answers how many bytes that is. The longest table has 36,874.
+#[tactic(auto, using(common::proofs::ChoiceLaws::choices), unfolding(crate::specs::Output::output_of, crate::specs::Output::found, search::specs::Searching::search_of))]
 pub fn write_answer(
     t: &[u8],
     work: &mut [u16; 26368],
@@ -36,6 +36,6 @@ pub fn write_answer(
     }
     match Table::check(t) {
         Ok(table) => write_good(&table, work, run, out),
-        Err(refusal) => fault_line(out, 0, refusal),
+        Err(refusal) => write_refused(out, refusal.into()),
     }
 }

@@ -1,5 +1,6 @@
 -- Choices: what is chosen where the test holds and where it does not, and what was tested where something is chosen.
-use Rattle.std.proofs.Common.{◌≡◌, Bool, true, false, ◌⊎◌, inl, inr, ℕ, ◌<◌, ◌≤◌, ltb, eqb, ltb-true, ltb-false, lt-ltb, le-ltb, eqb-true, eq-eqb, ne_eqb}
+use Rattle.std.proofs.Common.{◌≡◌, refl, Bool, true, false, ◌⊎◌, inl, inr, ℕ, ◌<◌, ◌≤◌, ltb, eqb, ltb-true, ltb-false, lt-ltb, le-ltb, eqb-true, eq-eqb, ne_eqb, arith}
+use Rattle.std.proofs.lemmas.Bool.Decides.{nat_tests}
 use borrow.Author.Tests.{eqb-false}
 use Rattle.common.specs.Choice.{if_true, if_lt, if_eq}
 use Rattle.common.proofs.BoolLaws.{either}
@@ -53,3 +54,20 @@ module _ {A : Type 0} (a b : ℕ) (x y : A) {r : A} where
       go : (eqb a b ≡ true) ⊎ (eqb a b ≡ false) → ((a ≡ b) × (x ≡ r)) ⊎ ((a ≡ b → ⊥) × (y ≡ r))
       go (inl e) = inl (eqb-true a b e, rw e at h)
       go (inr e) = inr (eqb-false a b e, rw e at h)
+
+-- What each choice tells, for `grind`: it finds its way through a model by the tests that the code made.
+module _ {A : Type 0} where
+  pub true_tells : (b : Bool) (x y : A) → ((if_true b x y ≡ x) × (b ≡ true)) ⊎ ((if_true b x y ≡ y) × (b ≡ false))
+  unfolding if_true
+  true_tells true x y = inl (refl, refl)
+  true_tells false x y = inr (refl, refl)
+
+  pub lt_tells : (a b : ℕ) (x y : A) → ((if_lt a b x y ≡ x) × (a < b)) ⊎ ((if_lt a b x y ≡ y) × (b ≤ a))
+  unfolding if_lt
+  lt_tells a b x y = grind (arith, nat_tests)
+
+  pub eq_tells : (a b : ℕ) (x y : A) → ((if_eq a b x y ≡ x) × (a ≡ b)) ⊎ ((if_eq a b x y ≡ y) × (a ≡ b → ⊥))
+  unfolding if_eq
+  eq_tells a b x y = grind (arith, nat_tests)
+
+pub ruleset choices = (true_tells, lt_tells, eq_tells)

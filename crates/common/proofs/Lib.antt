@@ -9,3 +9,4 @@ pub mod FirstLaws
 pub mod StoreLaws
 pub mod StandLaws
 pub mod CopyLaws
+pub mod ResultLaws

@@ -1,6 +1,5 @@
-// The names of files, as the program's arguments have them. Handles, argument and what it is for stay parameters of four functions: a struct of them
-// would borrow the handles anew for each call.
-ghost use Rattle.std.specs.Prelude.{◌≤◌, length, IfOk};
+// Arguments of the program that name files.
+ghost use Rattle.std.specs.Prelude.{◌≡◌, ◌≤◌, length, IfOk};
 
 use crate::failing::say_failure;
 use std::env::{Env, FillError};
@@ -10,33 +9,48 @@ use std::io::ErrorKind;
 // The system's number for a name that is too long.
 const NAME_TOO_LONG: i32 = 36;
 
-// Copies the name that an argument has to the start of `path`, and answers that part of it. An argument that can name no file is said, by what it is for.
-pub(crate) fn name_of<'a, R: Env, E: Print>(
-    rt: &R,
-    errors: &E,
-    argument: usize,
-    what: &[u8],
-    path: &'a mut [u8],
-) -> io::Result<&'a [u8]>
-    ensures { IfOk result (λ name. length name.now ≤ length path.old) }
-{
-    let n = rt
-        .arg(argument, path)
-        .map_err(no_name)
-        .inspect_err(|error| say_failure(errors, what, error))?;
-    Ok(&path[..n])
+// An argument that names a file: where it is asked for, where failures are said, which argument it is, and what its file is for.
+#[derive(Drop)]
+pub struct Argument<'a, R, E> {
+    pub rt: &'a R,
+    pub errors: &'a E,
+    pub number: usize,
+    pub what: &'a [u8],
 }
 
-// Fails where an argument can name no file, which is said, by what the argument is for. Inner.
-pub fn check_named<R: Env, E: Print>(
-    rt: &R,
-    errors: &E,
-    argument: usize,
-    what: &[u8],
-) -> io::Result<()> {
-    let mut path = [0u8; 4096];
-    name_of(rt, errors, argument, what, &mut path)?;
-    Ok(())
+impl<'a, R, E> Argument<'a, R, E> {
+    // The argument of that number. Inner.
+    pub fn new(rt: &'a R, errors: &'a E, number: usize, what: &'a [u8]) -> Argument<'a, R, E>
+        ensures { (result.number ≡ number) × (result.what.now ≡ what.now) }
+    {
+        Argument {
+            rt,
+            errors,
+            number,
+            what,
+        }
+    }
+}
+
+impl<R, E: Print> Argument<'_, R, E> {
+    // Says what failed and why.
+    pub(crate) fn say(&self, what: &[u8], error: &io::Error) {
+        say_failure(self.errors, what, error);
+    }
+}
+
+impl<R: Env, E: Print> Argument<'_, R, E> {
+    // Copies the name to the start of `path`, and answers that part of it. An argument that can name no file is said, by what its file is for. Inner.
+    pub fn name<'p>(&self, path: &'p mut [u8]) -> io::Result<&'p [u8]>
+        ensures { IfOk result (λ name. length name.now ≤ length path.old) }
+    {
+        let n = self
+            .rt
+            .arg(self.number, path)
+            .map_err(no_name)
+            .inspect_err(|error| self.say(self.what, error))?;
+        Ok(&path[..n])
+    }
 }
 
 // Why an argument names no file. No `From`: both types are the library's, so that this crate can have no `impl` for them.

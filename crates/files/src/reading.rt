@@ -1,9 +1,9 @@
-// A file that an argument names, read to its end.
+// A file that an argument names, and standard input, read to their ends.
 ghost use Rattle.std.specs.Prelude.{length, IfOk};
 ghost use Rattle.input.specs.Reading.{Between};
 
 use crate::failing::say_failure;
-use crate::names::name_of;
+use crate::names::Argument;
 use crate::system::open_read;
 use input::read_input;
 use std::env::Env;
@@ -19,19 +19,15 @@ fn read_file<R: Files>(rt: &R, path: &[u8], buffer: &mut [u8]) -> io::Result<usi
     read_input(&mut file, buffer)
 }
 
-// Reads the file that an argument names, or says why it cannot. Inner.
-pub fn read_named<R: Env + Files, E: Print>(
-    rt: &R,
-    errors: &E,
-    argument: usize,
-    what: &[u8],
-    buffer: &mut [u8],
-) -> io::Result<usize>
-    ensures { IfOk result (Between 0 (length buffer.old)) }
-{
-    let mut path = [0u8; 4096];
-    let name = name_of(rt, errors, argument, what, &mut path)?;
-    read_file(rt, name, buffer).inspect_err(|error| say_failure(errors, name, error))
+impl<R: Env + Files, E: Print> Argument<'_, R, E> {
+    // Reads the file that it names, or says why it cannot. Inner.
+    pub fn read(&self, buffer: &mut [u8]) -> io::Result<usize>
+        ensures { IfOk result (Between 0 (length buffer.old)) }
+    {
+        let mut path = [0u8; 4096];
+        let name = self.name(&mut path)?;
+        read_file(self.rt, name, buffer).inspect_err(|error| self.say(name, error))
+    }
 }
 
 // Reads standard input, or says why it cannot. Inner.

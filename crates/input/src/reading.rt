@@ -17,8 +17,7 @@ fn read_on<R: Read>(reader: &mut R, buffer: &mut [u8], at: usize) -> io::Result<
 }
 
 // Reads until the input ends or the buffer is full. Each turn but the last fills a place, so it ends; how many is what the read brought, so there is no
-// `for`. The first bytes of the buffer, up to the
-// place that it answers, are the input's. Inner.
+// `for`. The first bytes of the buffer, up to the place that it answers, are the input's. Inner.
 pub fn read_input<R: Read>(reader: &mut R, buffer: &mut [u8]) -> io::Result<usize>
     ensures { IfOk result (Between 0 (length buffer.old)) }
 {

@@ -21,7 +21,7 @@ use Rattle.judge.specs.declared.judging.Refused.TheVariants as refused_by
 use Rattle.judge.proofs.MemoryLaws.{loaded-sized, loaded-rows, taken-rows}
 
 -- What is said of a good list's rows.
-abbrev said : Judgement → Result Judgement Refused
+abbrev pub said : Judgement → Result Judgement Refused
 said j = Ok j
 
 -- ---- a list that was read
@@ -39,21 +39,26 @@ module _ (s : Shape) (list : List ℕ) (r : ListChecked) (e : r ≡ check_list s
     count = good-count s list n (sym e ∙ k)
 
     -- Its rows stand in the memory.
-    pub list-states : n ≤ length new.states
-    list-states = omega (arith, count, decoded.states_there)
+    there : n ≤ length new.states
+    there = omega (arith, count, decoded.states_there)
 
-    pub list-sized : s.channels ≤ 4 → Sized s.channels new.products.starts new.products.atoms (length (take n new.states))
+    pub list-few : n ≤ 1024
+    list-few = subst (λ (k : ℕ). k ≤ 1024) count (few_rows s list)
+
+    pub list-taken : n ≡ length (take n new.states)
+    list-taken = sym (length-take-le n new.states there)
+
+    pub list-sized : s.channels ≤ 4 → Sized s.channels new.products.starts new.products.atoms n
     list-sized h =
-        let taken : length (rows_of s list) ≡ length (take n new.states) = count ∙ sym (length-take-le n new.states list-states) in
-        subst (Sized s.channels new.products.starts new.products.atoms) taken
+        subst (Sized s.channels new.products.starts new.products.atoms) count
         (loaded-sized s (rows_of s list) new decoded (rows-fit-all s list) h (few_rows s list))
 
     -- The memory m has just these.
-    module _ (m : Rows) (channels : m.channels ≡ s.channels) (states : m.states.now ≡ take n new.states) (starts : m.starts.now ≡ new.products.starts) (atoms : m.atoms.now ≡ new.products.atoms) where
+    module _ (m : Rows) (channels : m.products.channels ≡ s.channels) (states : m.states.now ≡ take n new.states) (starts : m.products.starts.now ≡ new.products.starts) (atoms : m.products.atoms.now ≡ new.products.atoms) where
       same_rows : rows_in m ≡ rows_of s list
       same_rows =
           rw (channels, states, starts, atoms)
-          (taken-rows s.channels new.states new.products.starts new.products.atoms n list-states
+          (taken-rows s.channels new.states new.products.starts new.products.atoms n there
           ∙ ap (λ (k : ℕ). rows_at s.channels new.states new.products.starts new.products.atoms k 0) (sym count)
           ∙ loaded-rows s (rows_of s list) new decoded (rows-fit-all s list))
 

@@ -1,6 +1,6 @@
 -- What the call's answers mean for the system's runs. For a good table and a good list each answer is the first that holds; accepted means that the list's
 -- rows are an invariant that rules out every run to a bad state.
-use Rattle.std.proofs.Common.{◌≡◌, refl, sym, ap, subst, ◌∙◌, ◌↔◌, List, ℕ, arith, Result, Ok, Err}
+use Rattle.std.proofs.Common.{◌≡◌, refl, sym, ap, subst, ◌∙◌, ◌↔◌, List, ℕ, Result, Ok, Err}
 use Rattle.common.proofs.AtLaws.{At}
 use Rattle.common.proofs.EachLaws.{each_at}
 use Rattle.meaning.specs.Systems.{System, start_of, Safe}
@@ -23,6 +23,7 @@ use Rattle.judge.specs.Judging.{found, judge_for, judge_good, judge_with, judge_
 use Rattle.judge.specs.declared.judging.Judgement.{Judgement}
 use Rattle.judge.specs.declared.judging.Judgement.TheVariants.{NoStart, BadRow, NotClosed, Accepted}
 use Rattle.judge.specs.declared.judging.Refused.{Refused}
+use Rattle.judge.proofs.AnswerLaws.{said}
 
 -- The list is good for tables of that shape.
 abbrev pub GoodList : Shape → List ℕ → Type 0
@@ -42,16 +43,12 @@ found-means S l no_start h = h
 found-means S l (bad_row i) h = h
 found-means S l (not_closed i j) h = h
 
--- What is said of a good list's rows.
-abbrev said : Judgement → Result Judgement Refused
-said j = Ok j
-
 -- Only what is accepted is told so.
 found-accepted : (j : judgement.Judgement) → said Accepted ≡ said (found j) → j ≡ accepted
 found-accepted accepted e = refl
-found-accepted no_start e = let z : ◌≡◌ {A = ℕ} 0 1 = cc in absurd (omega arith)
-found-accepted (bad_row i) e = let z : ◌≡◌ {A = ℕ} 0 1 = cc in absurd (omega arith)
-found-accepted (not_closed i j) e = let z : ◌≡◌ {A = ℕ} 0 1 = cc in absurd (omega arith)
+found-accepted no_start e = absurd (cc)
+found-accepted (bad_row i) e = absurd (cc)
+found-accepted (not_closed i j) e = absurd (cc)
 
 module _ (t : List ℕ) (s : Shape) (g : GoodTable t s) (list : List ℕ) where
   abbrev S : System
@@ -101,9 +98,9 @@ unfolding judge_of judge_good
 accepted-sound t list p = go (check_table t) refl p.exact
   where
     of-list : (s : Shape) → GoodTable t s → (c : ListChecked) → check_list s list ≡ c → said Accepted ≡ judge_for t s list c → (s : Shape) × GoodTable t s × GoodList s list × Safe (system_of t)
-    of-list s g (Err f) k e = let z : ◌≡◌ {A = ℕ} 0 1 = cc in absurd (omega arith)
+    of-list s g (Err f) k e = absurd (cc)
     of-list s g (Ok n) k e = (s, g, (n, k), accepted-no-run t s g list (n, k) p)
 
     go : (c : Result Shape Refusal) → check_table t ≡ c → said Accepted ≡ judge_with t list c → (s : Shape) × GoodTable t s × GoodList s list × Safe (system_of t)
-    go (Err f) g e = let z : ◌≡◌ {A = ℕ} 0 1 = cc in absurd (omega arith)
+    go (Err f) g e = absurd (cc)
     go (Ok s) g e = of-list s g (check_list s list) refl e

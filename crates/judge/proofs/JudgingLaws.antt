@@ -34,10 +34,10 @@ module _ (t : List ℕ) (s : Shape) (g : GoodTable t s) (m : Rows) where
   bad_found = first_bad t s m.states.now (length m.states.now) 0
 
   start-is-in : has_start S.start l ≡ start_found
-  start-is-in = ap (λ (x : ℕ). has_start x l) (start_is t s g) ∙ sym (start-in s.start m.channels m.states.now m.starts.now m.atoms.now (length m.states.now) 0)
+  start-is-in = ap (λ (x : ℕ). has_start x l) (start_is t s g) ∙ sym (start-in s.start m.products.channels m.states.now m.products.starts.now m.products.atoms.now (length m.states.now) 0)
 
   bad-is-in : place_in bad_found ≡ lowest_bad S.bad l
-  bad-is-in = bad-in t s m.channels m.states.now m.starts.now m.atoms.now (length m.states.now) 0 ∙ ap (λ (x : List ℕ). lowest_bad x l) (sym (bads-are t s g))
+  bad-is-in = bad-in t s m.products.channels m.states.now m.products.starts.now m.products.atoms.now (length m.states.now) 0 ∙ ap (λ (x : List ℕ). lowest_bad x l) (sym (bads-are t s g))
 
   -- What the judge says of rows with a start.
   abbrev with_moves : math.Option (ℕ × ℕ) → says.Judgement
@@ -63,7 +63,7 @@ module _ (t : List ℕ) (s : Shape) (g : GoodTable t s) (m : Rows) where
       pub judged-bad : (i : ℕ) → r ≡ Some i → BadRow i ≡ judged_at t s m
       judged-bad i k = started (Some i) k
 
-      pub judged-moves : {a : Judgement} → m.channels ≡ s.channels → r ≡ None → a ≡ closed_answer (first_open_row t s m (length m.states.now) 0) → a ≡ judged_at t s m
+      pub judged-moves : {a : Judgement} → m.products.channels ≡ s.channels → r ≡ None → a ≡ closed_answer (first_open_row t s m (length m.states.now) 0) → a ≡ judged_at t s m
       judged-moves same k q =
           q ∙ moves-found (first_open_row t s m (length m.states.now) 0) ∙ ap (λ (o : math.Option (ℕ × ℕ)). found (with_moves o)) (closed_in t s m same g)
           ∙ started None k

@@ -3,6 +3,7 @@ pub mod LookLaws
 pub mod OutcomeLaws
 pub mod StateLaws
 pub mod MoveLaws
+pub mod FirstLaws
 pub mod OpenLaws
 pub mod JudgingLaws
 pub mod MemoryLaws

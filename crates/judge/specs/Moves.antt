@@ -13,7 +13,7 @@ use Rattle.judge.specs.declared.moves.Open.{Open}
 
 -- The outcome of a move from row i is impossible or inside one row.
 unfoldable pub settled_at : Rows → ℕ → Move → Bool
-settled_at m i u = settled m.channels (rows_in m) (outcome u (row_in m i))
+settled_at m i u = settled m.products.channels (rows_in m) (outcome u (row_in m i))
 
 -- The first of k transitions from transition j on whose outcome from row i is neither.
 unfoldable pub first_open : List ℕ → Shape → Rows → ℕ → ℕ → ℕ → Option ℕ

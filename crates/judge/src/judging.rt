@@ -4,11 +4,11 @@ ghost use Rattle.judge.specs.Moves.{first_open_row};
 ghost use Rattle.judge.specs.Judging.{closed_answer, judged_at, judge_good, Judges};
 ghost use Rattle.judge.specs.declared.judging.Refused.TheVariants.{Table};
 
-use crate::memory::Rows;
-use crate::moves::{Open, open_row};
+use crate::memory::{Listed, Products, Rows};
+use crate::moves::Open;
 use crate::states::{has_start, lowest_bad};
 use lists::read_list;
-use table::{Refusal, Table};
+use table::{Refusal, Table, Told};
 
 // What is said of the rows of a good list, the first that holds: no row has the start; the lowest row in a bad state; the lowest row, and its lowest
 // transition, whose outcome is neither impossible nor inside one row; accepted.
@@ -35,29 +35,47 @@ impl From<Refusal> for Refused {
     }
 }
 
-// Looks at the moves of rows that have the start and no bad state.
-fn judge_moves(table: &Table, rows: &Rows) -> Judgement
-    requires { rows.now.channels ≡ table.now.shape.channels }
-    ensures { result ≡ closed_answer (first_open_row table.now.bytes.now table.now.shape rows.now (length rows.now.states.now) 0) }
-{
-    let mut buffer = [0u16; 25];
-    match open_row(table, rows, &mut buffer) {
-        None => Judgement::Accepted,
-        Some(Open { row, transition }) => Judgement::NotClosed { row, transition },
+// A refusal of the list has the numbers of one of the table, but for the input, which is 1.
+impl From<Refused> for Told {
+    ghost use Rattle.std.specs.Prelude.{Err};
+    ghost use Rattle.table.specs.Answers.{refusal_told};
+    ghost use Rattle.judge.specs.Judging as judge;
+
+    ghost from_gives = { λ refused told. judge.answer_of (Err refused) ≡ judge.refused (refusal_told told) };
+
+    fn from(refused: Refused) -> Told {
+        match refused {
+            Refused::Table(refusal) => Told::from(refusal),
+            Refused::List(refusal) => Told {
+                input: 1,
+                ..Told::from(refusal)
+            },
+        }
     }
 }
 
-// Judges rows where they stand in memory.
-fn judge_rows(table: &Table, rows: &Rows) -> Judgement
-    requires { rows.now.channels ≡ table.now.shape.channels }
-    ensures { result ≡ judged_at table.now.bytes.now table.now.shape rows.now }
-{
-    if !has_start(rows.states, table.shape.start) {
-        return Judgement::NoStart;
+impl Listed<'_> {
+    // Looks at the moves of rows that have the start and no bad state.
+    fn judge_moves(&self) -> Judgement
+        ensures { result ≡ closed_answer (first_open_row self.now.table.now.bytes.now self.now.table.now.shape self.now.rows.now (length self.now.rows.now.states.now) 0) }
+    {
+        match self.open_row() {
+            None => Judgement::Accepted,
+            Some(Open { row, transition }) => Judgement::NotClosed { row, transition },
+        }
     }
-    match lowest_bad(table, rows.states) {
-        Some(row) => Judgement::BadRow(row),
-        None => judge_moves(table, rows),
+
+    // Judges the rows where they stand in memory.
+    fn judge_rows(&self) -> Judgement
+        ensures { result ≡ judged_at self.now.table.now.bytes.now self.now.table.now.shape self.now.rows.now }
+    {
+        if !has_start(self.rows.states, self.table.shape.start) {
+            return Judgement::NoStart;
+        }
+        match lowest_bad(self.table, self.rows.states) {
+            Some(row) => Judgement::BadRow(row),
+            None => self.judge_moves(),
+        }
     }
 }
 
@@ -65,23 +83,27 @@ fn judge_rows(table: &Table, rows: &Rows) -> Judgement
 fn judge_list(
     table: &Table,
     list: &[u8],
-    states: &mut [usize],
-    starts: &mut [usize],
-    atoms: &mut [u16],
+    states: &mut [usize; 1024],
+    starts: &mut [usize; 4097],
+    atoms: &mut [u16; 98304],
 ) -> Result<Judgement, Refused>
-    requires { (1024 ≤ length states.old) × (4097 ≤ length starts.old) × (98304 ≤ length atoms.old) }
     ensures { result ≡ judge_good table.now.bytes.now table.now.shape list.now }
 {
     match read_list(list, table.shape, states, starts, atoms) {
         Err(refusal) => Err(Refused::List(refusal)),
         Ok(count) => {
-            let rows = Rows {
-                states: &states[..count],
+            let products = Products {
                 starts,
                 atoms,
                 channels: table.shape.channels,
+                rows: count,
             };
-            Ok(judge_rows(table, &rows))
+            let rows = Rows {
+                states: &states[..count],
+                products,
+            };
+            let listed = Listed { table, rows: &rows };
+            Ok(listed.judge_rows())
         }
     }
 }

@@ -1,24 +1,26 @@
 // The moves of a list's rows: each outcome is impossible or inside one row, or the lowest row and its lowest move for which it is not. All
 // functions here are inner.
-ghost use Rattle.std.specs.Prelude.{◌≡◌, ◌<◌, ◌≤◌, length, get_or};
+ghost use Rattle.std.specs.Prelude.{◌≡◌, ◌<◌, ◌≤◌, length, get_or, not};
 ghost use Rattle.meaning.specs.Systems.{Ranged};
-ghost use Rattle.table.specs.Transitions.{operation_of, move_of};
+ghost use Rattle.table.specs.Transitions.{operation_of, move_of, transition_at};
 ghost use Rattle.judge.specs.Moves.{settled_at, first_open, first_open_row};
 
-use crate::memory::Rows;
+use crate::memory::{Listed, Rows};
 use crate::outcomes::outcome_into;
 use rows::{Outcome, Rows as _, is_covered};
-use table::{Table, Transition};
+use table::Transition;
 
-// The outcome of a transition from row i, which is in its source, is impossible or inside one row. The product that changes goes to the buffer.
-fn is_settled(rows: &Rows, i: usize, transition: Transition, buffer: &mut [u16]) -> bool
-    requires i_lt_rows { (i < length rows.now.states.now) × (25 ≤ length buffer.old) }
+// The outcome of a transition from row i, which is in its source, is impossible or inside one row. Rows and number stay two: the look goes over all rows, and
+// an outcome names its row by number. The buffer is local: find and find_map, which go over moves and rows, promise most of closures that change nothing.
+fn is_settled(rows: &Rows, i: usize, transition: Transition) -> bool
+    requires i_lt_rows { i < length rows.now.states.now }
     requires in_source { get_or rows.now.states.now i 0 ≡ transition.source }
-    requires ranged { Ranged rows.now.channels 15 (operation_of transition.operation) }
+    requires ranged { Ranged rows.now.products.channels 15 (operation_of transition.operation) }
     ensures { result ≡ settled_at rows.now i (move_of transition) }
 {
     let loops = transition.source == transition.target;
-    match outcome_into(rows, i, transition.operation, loops, buffer) {
+    let mut buffer = [0u16; 25];
+    match outcome_into(&rows.products, i, transition.operation, loops, &mut buffer) {
         None => true,
         Some(changed) => {
             let outcome = Outcome {
@@ -27,46 +29,44 @@ fn is_settled(rows: &Rows, i: usize, transition: Transition, buffer: &mut [u16])
                 channel: changed.channel,
                 product: &buffer[..changed.count],
             };
-            is_covered(rows, rows.channels, &outcome)
+            is_covered(rows, rows.products.channels, &outcome)
         }
     }
 }
 
-// The lowest transition whose outcome from row i is neither.
-fn open_move(table: &Table, rows: &Rows, i: usize, buffer: &mut [u16]) -> Option<usize>
-    requires same_channels { rows.now.channels ≡ table.now.shape.channels }
-    requires i_lt_rows { (i < length rows.now.states.now) × (25 ≤ length buffer.old) }
-    ensures { result ≡ first_open table.now.bytes.now table.now.shape rows.now i table.now.shape.transitions 0 }
-{
-    let state = rows.state(i);
-    for j in 0..table.shape.transitions {
-        if table.source(j) == state && !is_settled(rows, i, table.transition(j), buffer) {
-            return Some(j);
-        }
-    }
-    None
-}
-
-// Why a list is not closed: the lowest row with such a transition, and its lowest.
+// Why a list is not closed: the lowest row with a transition whose outcome is neither impossible nor inside one row, and its lowest.
 #[derive(Clone, Copy, Debug, PartialEq, Eq)]
 pub struct Open {
     pub row: usize,
     pub transition: usize,
 }
 
-// Looks at each row; none where the list is closed.
-pub fn open_row(table: &Table, rows: &Rows, buffer: &mut [u16]) -> Option<Open>
-    requires same_channels { rows.now.channels ≡ table.now.shape.channels }
-    requires room { 25 ≤ length buffer.old }
-    ensures { result ≡ first_open_row table.now.bytes.now table.now.shape rows.now (length rows.now.states.now) 0 }
-{
-    for i in 0..rows.count() {
-        if let Some(j) = open_move(table, rows, i, buffer) {
-            return Some(Open {
-                row: i,
-                transition: j,
-            });
-        }
+impl Listed<'_> {
+    // The outcome of transition j from row i, which is in that state, is neither.
+    fn is_open(&self, i: usize, state: usize, j: usize) -> bool
+        requires in_bounds { (i < length self.now.rows.now.states.now) × (j < self.now.table.now.shape.transitions) }
+        requires in_state { get_or self.now.rows.now.states.now i 0 ≡ state }
+        ensures { result ≡ not (settled_at self.now.rows.now i (move_of (transition_at self.now.table.now.bytes.now j))) }
+    {
+        self.table.source(j) == state && !is_settled(self.rows, i, self.table.transition(j))
     }
-    None
+
+    // The lowest transition whose outcome from row i is neither.
+    fn open_move(&self, i: usize) -> Option<usize>
+        requires { i < length self.now.rows.now.states.now }
+        ensures { result ≡ first_open self.now.table.now.bytes.now self.now.table.now.shape self.now.rows.now i self.now.table.now.shape.transitions 0 }
+    {
+        let state = self.rows.state(i);
+        (0..self.table.shape.transitions).find(|j| self.is_open(i, state, *j))
+    }
+
+    // Looks at each row; none where the list is closed.
+    pub fn open_row(&self) -> Option<Open>
+        ensures { result ≡ first_open_row self.now.table.now.bytes.now self.now.table.now.shape self.now.rows.now (length self.now.rows.now.states.now) 0 }
+    {
+        (0..self.rows.count()).find_map(|row| {
+            let transition = self.open_move(row)?;
+            Some(Open { row, transition })
+        })
+    }
 }

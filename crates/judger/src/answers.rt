@@ -6,10 +6,11 @@ ghost use Rattle.wording.specs.Written.{Written};
 ghost use Rattle.judger.specs.Output.{line_of, output_of};
 
 use judge::{Judgement, Refused, judge};
+use table::Told;
 use wording::Line;
-use wording::lines::input_fault_line;
 
 // Writes the line of what is said of the rows.
+#[tactic(auto, using(crate::proofs::OutputLaws::rooms))]
 fn write_judgement(judgement: Judgement, out: &mut [u8]) -> usize
     requires { 80 ≤ length out.old }
     ensures { Written out.old 0 (line_of (answer_of (Ok judgement))) out.new result }
@@ -24,19 +25,20 @@ fn write_judgement(judgement: Judgement, out: &mut [u8]) -> usize
     }
 }
 
-// Writes the line of the judge's answer. The table is input 0, the list input 1.
+// Writes the line of the judge's answer.
+#[tactic(auto, using(crate::proofs::OutputLaws::rooms))]
 fn write_line(answer: Result<Judgement, Refused>, out: &mut [u8]) -> usize
     requires { 80 ≤ length out.old }
     ensures { Written out.old 0 (line_of (answer_of answer)) out.new result }
 {
     match answer {
         Ok(judgement) => write_judgement(judgement, out),
-        Err(Refused::Table(refusal)) => input_fault_line(out, 0, refusal, 0),
-        Err(Refused::List(refusal)) => input_fault_line(out, 0, refusal, 1),
+        Err(refused) => Line::from(Told::from(refused)).write(out, 0),
     }
 }
 
 // Writes the whole output for the bytes of a table and a list, and answers how many bytes that is.
+#[tactic(auto, using(common::proofs::ChoiceLaws::choices), unfolding(crate::specs::Output::output_of))]
 pub fn write_answer(table: &[u8], list: &[u8], out: &mut [u8]) -> usize
     requires { 80 ≤ length out.old }
     ensures { Written out.old 0 (output_of table.now list.now) out.new result }

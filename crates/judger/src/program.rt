@@ -1,8 +1,8 @@
-// From inputs to output. What is said of the inputs is decided and written by `write_answer` alone.
+// From inputs to output. What is said of the inputs is decided and written by `write_answer` alone. The output is a slice as there.
 ghost use Rattle.std.specs.Prelude.{◌≤◌, length};
 
 use crate::answers::write_answer;
-use files::{read_named, write_output};
+use files::{Argument, write_output};
 use std::env::Env;
 use std::io;
 use std::rt::Files;
@@ -18,14 +18,14 @@ fn try_judge<R: Env + Files + Print, E: Print>(
 ) -> io::Result<()>
     requires { 80 ≤ length out.old }
 {
-    let n = read_named(rt, errors, 1, b"table", table)?;
-    let m = read_named(rt, errors, 2, b"list", list)?;
+    let n = Argument::new(rt, errors, 1, b"table").read(table)?;
+    let m = Argument::new(rt, errors, 2, b"list").read(list)?;
     let size = write_answer(&table[..n], &list[..m], out);
     write_output(rt, errors, &out[..size]);
     Ok(())
 }
 
-// The same; what failed is said by then, and the status says no more.
+// The same as a call that cannot fail, as it could not before its parts could: what failed is said by then, and the status says no more.
 pub fn judge_files<R: Env + Files + Print, E: Print>(
     rt: &R,
     errors: &E,

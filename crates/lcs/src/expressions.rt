@@ -13,6 +13,7 @@ const NO_PRODUCT: u32 = 65535;
 const IMPOSSIBLE: u32 = 65534;
 
 // The words are at most 25, and each is an atom.
+#[tactic(auto, using(crate::proofs::ExpressionLaws::product_tells), unfolding(crate::specs::Expressions::is_product))]
 fn is_product(p: &[u16]) -> bool
     ensures { result ≡ is_product p.now }
 {
@@ -20,6 +21,7 @@ fn is_product(p: &[u16]) -> bool
 }
 
 // Whether every word of p is a word of q.
+#[tactic(auto, using(common::proofs::ChoiceLaws::choices), unfolding(crate::specs::Expressions::contained_answer))]
 pub fn lcs_contained(p: &[u16], q: &[u16]) -> u32
     ensures { result ≡ contained_answer p.now q.now }
 {
@@ -35,14 +37,15 @@ fn normal_front(p: &mut [u16]) -> usize
     ensures { NormalFront p.old p.new result }
 {
     let mut copy = [0u16; 25];
-    let n = p.len();
-    copy[..n].copy_from_slice(p);
-    let count = normalise(&mut copy, n);
-    p[..count].copy_from_slice(&copy[..count]);
+    let front = &mut copy[..p.len()];
+    front.copy_from_slice(p);
+    let count = normalise(front);
+    p[..count].copy_from_slice(&front[..count]);
     count
 }
 
 // p in normal form, in its first places.
+#[tactic(auto, using(crate::proofs::ExpressionLaws::product_tells), unfolding(crate::specs::Expressions::normal_answer, crate::specs::Expressions::normal_leaves))]
 pub fn lcs_normal(p: &mut [u16]) -> u32
     ensures value { result ≡ normal_answer p.old }
     ensures p_after { p.new ≡ normal_leaves p.old }
@@ -70,6 +73,7 @@ fn receive_front(p: &mut [u16], m: usize) -> u32
 }
 
 // What a receive of the message leaves of p, in its first places.
+#[tactic(auto, using(crate::proofs::ExpressionLaws::product_tells), unfolding(crate::specs::Expressions::receive_answer, crate::specs::Expressions::receive_leaves))]
 pub fn lcs_receive(p: &mut [u16], message: u8) -> u32
     ensures value { result ≡ receive_answer p.old message }
     ensures p_after { p.new ≡ receive_leaves p.old message }

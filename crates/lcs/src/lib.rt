@@ -4,7 +4,7 @@
 
 pub mod expressions;
 pub mod judges;
-pub mod outs;
+mod outs;
 pub mod replays;
 pub mod searches;
 pub mod tables;

@@ -1,10 +1,9 @@
 // What `out` is filled with. All functions here are inner.
 ghost use Rattle.std.specs.Prelude.{◌≡◌, [], ◌∷◌};
-ghost use Rattle.table.specs.Answers.{number_of, place_of};
 
-use table::Refusal;
+use table::Told;
 
-// Three counts.
+// Three counts. By `as`: no From leads from usize to u64.
 pub fn counts(n: [usize; 3]) -> [u64; 3]
     ensures { result ≡ n }
 {
@@ -12,8 +11,8 @@ pub fn counts(n: [usize; 3]) -> [u64; 3]
 }
 
 // A refusal's numbers: which it is, the input, and the place in it.
-pub fn refused(refusal: Refusal, input: u64) -> [u64; 3]
-    ensures { result ≡ number_of refusal.fault ∷ input ∷ place_of refusal.fault refusal.at ∷ [] }
+pub fn refused(told: Told) -> [u64; 3]
+    ensures { result ≡ told.number ∷ told.input ∷ told.place ∷ [] }
 {
-    [u64::from(refusal.fault), input, refusal.place() as u64]
+    counts([told.number, told.input, told.place])
 }

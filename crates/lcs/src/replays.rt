@@ -4,7 +4,8 @@ ghost use Rattle.replay.specs.Replaying.{replay_answer};
 ghost use Rattle.lcs.specs.Replays.{replay_code, replay_out};
 
 use crate::outs::{counts, refused};
-use replay::{Ending, Refused, replay};
+use replay::{Ending, replay};
+use table::Told;
 
 // What the run comes to when all its words are played, or the refusal.
 pub fn lcs_replay(table: &[u8], run: &[u16], out: &mut [u64; 3]) -> u32
@@ -15,8 +16,7 @@ pub fn lcs_replay(table: &[u8], run: &[u16], out: &mut [u64; 3]) -> u32
         Ok(Ending::Bad(steps)) => (0, counts([steps, 0, 0])),
         Ok(Ending::Elsewhere(state)) => (1, counts([state, 0, 0])),
         Ok(Ending::Stuck(step)) => (2, counts([step, 0, 0])),
-        Err(Refused::Table(refusal)) => (4, refused(refusal, 0)),
-        Err(Refused::TooLong) => (4, counts([6, 2, 0])),
+        Err(refusal) => (4, refused(Told::from(refusal))),
     };
     *out = numbers;
     code

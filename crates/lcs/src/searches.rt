@@ -5,7 +5,8 @@ ghost use Rattle.work.specs.Layout.{all_words};
 ghost use Rattle.lcs.specs.Searches.{searched, search_code, search_out};
 
 use crate::outs::{counts, refused};
-use search::searches::{Refused, Verdict, search};
+use search::searches::{Verdict, search};
+use table::Told;
 
 // The search's verdict or the refusal, with its rows in the first words of the work table, and with unsafe the run in those of the run buffer.
 pub fn lcs_search(table: &[u8], work: &mut [u16], run: &mut [u16], out: &mut [u64; 3]) -> u32
@@ -31,9 +32,7 @@ pub fn lcs_search(table: &[u8], work: &mut [u16], run: &mut [u16], out: &mut [u6
                 transition,
             },
         ) => (3, counts([rows, row, transition])),
-        Err(Refused::Table(refusal)) => (4, refused(refusal, 0)),
-        Err(Refused::SmallWork(words)) => (4, counts([7, 3, words])),
-        Err(Refused::SmallRun(words)) => (4, counts([8, 3, words])),
+        Err(refusal) => (4, refused(Told::from(refusal))),
     };
     *out = numbers;
     code

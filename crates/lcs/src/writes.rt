@@ -5,9 +5,11 @@ ghost use Rattle.writer.specs.Answers.{write_answer};
 ghost use Rattle.lcs.specs.Writes.{write_code, write_out};
 
 use crate::outs::{counts, refused};
-use writer::{Refused, write_list};
+use table::Told;
+use writer::write_list;
 
 // How many bytes the list of the first rows of the work table has, which stands in the first bytes of list, or the refusal.
+#[tactic(auto, unfolding(writer::specs::Answers::write_answer))]
 pub fn lcs_write_list(
     table: &[u8],
     work: &[u16],
@@ -21,9 +23,7 @@ pub fn lcs_write_list(
 {
     let (code, numbers) = match write_list(table, work, rows as usize, list) {
         Ok(bytes) => (0, counts([bytes, 0, 0])),
-        Err(Refused::Table(refusal)) => (4, refused(refusal, 0)),
-        Err(Refused::BadRow(row)) => (4, counts([9, 3, row])),
-        Err(Refused::TooSmall(needed)) => (4, counts([10, 3, needed])),
+        Err(refusal) => (4, refused(Told::from(refusal))),
     };
     *out = numbers;
     code

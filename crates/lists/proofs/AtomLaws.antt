@@ -80,3 +80,5 @@ module _ {f : Frame} {t : List ℕ} {from count used : ℕ} {old new : List ℕ}
         inside = omega arith;
         stored = w.stored;
       }
+
+pub ruleset atom_turns = (atoms-start, atoms-on, atoms-end)

@@ -197,3 +197,5 @@ pub loaded-first : (n : ℕ) (l : List Row) (states starts atoms : List ℕ) (y 
     → Loaded n l (memory states (set starts 0 y) atoms) new → Loaded n l (memory states starts atoms) new
 loaded-first n l states starts atoms y new h =
     record { states_are = h.states_are; starts_are = h.starts_are ∙ front-first 0 y (ends 0 (all_products n l)) starts; atoms_are = h.atoms_are }
+
+pub ruleset row_turns = (rows_start)

@@ -1,14 +1,12 @@
 -- The products of a row, read one after the other and stored.
 use Rattle.std.proofs.Common.{◌≡◌, refl, sym, ap, ◌∙◌, List, [], ◌∷◌, ◌++◌, ℕ, ◌+◌, ◌*◌, ◌<◌, ◌≤◌, arith, length, set, length-set, length-append}
 use Rattle.common.specs.Store.{put_at}
-use Rattle.common.proofs.ChoiceLaws.{lt-then, lt-else}
 use Rattle.common.proofs.StoreLaws.{put-none, put_next, put_then, put-length}
-use Rattle.reader.specs.Bytes.{byte_at}
 use Rattle.table.specs.declared.faults.Fault.{Fault}
 use Rattle.lists.specs.Format.{joined}
-use Rattle.lists.specs.Reading.{fails, read_many, read_atom, read_product}
+use Rattle.lists.specs.Reading.{fails, read_many, read_product}
 use Rattle.lists.specs.Loading.{Products, atoms_in, ends}
-use Rattle.lists.specs.Steps.{AtomsRead, ProductRead, ProductsRead}
+use Rattle.lists.specs.Steps.{ProductRead, ProductsRead}
 use Rattle.lists.proofs.ManyLaws.{Reading, reading-starts, reading-on, reading-fails, reading-ends}
 use Rattle.lists.proofs.JoinLaws.{joined_snoc, ends-length, ends_snoc}
 use Rattle.lists.specs.declared.products.Frame.{Frame}
@@ -16,28 +14,6 @@ use Rattle.lists.specs.declared.products.Progress.{Progress}
 
 abbrev progress : ℕ → ℕ → Progress
 progress at atoms = record { at = at; atoms = atoms }
-
--- A product is its atoms, where its count is there and is at most 24.
-module _ (f : Frame) (t : List ℕ) (from count : ℕ) (e : count ≡ byte_at t from) (l : from < f.end) (m : count ≤ 24) where
-  pub product-atoms : read_product f t from ≡ read_many (read_atom f t) count (from + 1)
-  unfolding read_product
-  product-atoms = rw e (sym (lt-then _ _ _ _ l (lt-else _ _ _ _ (omega arith) refl)))
-
-  pub product-fails : (q : Fault) → read_many (read_atom f t) count (from + 1) ≡ fails q → read_product f t from ≡ fails q
-  product-fails q d = product-atoms ∙ d
-
-  pub product-read : (used : ℕ) (old new : List ℕ) → AtomsRead (read_many (read_atom f t) count (from + 1)) f.end (from + 1 + 2 * count) count used old new
-      → ProductRead (read_product f t from) f.end (progress from used) old new (progress (from + 1 + 2 * count) (used + count))
-  product-read used old new r =
-      record {
-        product = r.atoms;
-        whole = product-atoms ∙ r.whole;
-        many = omega (arith, r.many);
-        few = omega arith;
-        onward = omega arith;
-        inside = r.inside;
-        stored = r.stored;
-      }
 
 -- Of so many channels c have their products read and stored, the first as product number `first`; n atoms are stored.
 pub record ProductsAt (f : Frame) (t : List ℕ) (from : Progress) (channels first : ℕ) (old new : Products) (c : ℕ) (at : Progress) : Type 0 where
@@ -114,3 +90,5 @@ module _ {f : Frame} {t : List ℕ} {from : Progress} {channels first : ℕ} {ol
         starts_stored = w.starts_stored;
         atoms_stored = w.atoms_stored;
       }
+
+pub ruleset product_turns = (products-start, products-end)

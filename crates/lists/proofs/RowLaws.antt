@@ -1,19 +1,17 @@
 -- One row: what its frame and its payload decide, and what reading it stores.
-use Rattle.std.proofs.Common.{◌≡◌, refl, sym, ap, ◌∙◌, List, [], ◌∷◌, ℕ, suc, ◌+◌, ◌<◌, ◌≤◌, arith, length, get_or, set, Result, Ok, Err}
+use Rattle.std.proofs.Common.{◌≡◌, refl, sym, ap, ◌∙◌, List, [], ◌∷◌, ℕ, suc, ◌+◌, ◌<◌, ◌≤◌, arith, length, get_or, set, Ok}
 use Rattle.common.specs.Choice.{if_lt}
-use Rattle.common.proofs.ChoiceLaws.{lt-then, lt-else}
+use Rattle.common.proofs.ChoiceLaws.{choices, lt-then, lt-else}
 use Rattle.common.proofs.StoreLaws.{put_one}
 use Rattle.rows.specs.Rows.{Row}
 use Rattle.reader.specs.Bytes.{number_at}
 use Rattle.table.specs.Listing.{listed}
-use Rattle.table.proofs.PassLaws.{below_fails, below-passes, equal-passes}
-use Rattle.table.specs.declared.faults.Fault.{Fault}
 use Rattle.table.specs.declared.faults.Fault.TheVariants.{Length}
 use Rattle.table.specs.declared.checks.Shape.{Shape}
 use Rattle.lists.specs.Format.{products_of}
 use Rattle.lists.specs.Reading.{Read, read, fails, and_then, read_many, read_product, row_with, frame_of, read_payload, frame_at, read_row}
 use Rattle.lists.specs.Loading.{Products, Memory}
-use Rattle.lists.specs.Steps.{ProductsRead, RowRead, RowTold}
+use Rattle.lists.specs.Steps.{ProductsRead, RowRead}
 use Rattle.lists.proofs.ManyLaws.{many-each}
 use Rattle.lists.specs.declared.products.Progress.{Progress}
 use Rattle.lists.specs.declared.records.Filled.{Filled}
@@ -54,14 +52,6 @@ module _ (s : Shape) (t : List ℕ) (at end state : ℕ) (e : state ≡ number_a
   unfolding read_payload rest
   payload-is = rw e (sym (lt-else _ _ _ _ l (lt-then _ _ _ _ (omega arith) refl)))
 
-  pub payload-fails : (q : Fault) → products ≡ fails q → read_payload s t at end ≡ fails q
-  unfolding rest
-  payload-fails q d = payload-is ∙ ap rest d
-
-  pub payload-over : (ps : List (List ℕ)) (next : ℕ) → products ≡ read ps next → next < end → read_payload s t at end ≡ fails Length
-  unfolding rest
-  payload-over ps next d k = payload-is ∙ ap rest d ∙ sym (lt-then _ _ _ _ k refl)
-
   pub payload-read : (ps : List (List ℕ)) (next : ℕ) → products ≡ read ps next → end ≤ next → read_payload s t at end ≡ read (row_with state ps) next
   unfolding rest
   payload-read ps next d k = payload-is ∙ ap rest d ∙ sym (lt-else _ _ _ _ k refl)
@@ -93,28 +83,12 @@ pub record FrameOk (t : List ℕ) (at i end : ℕ) : Type 0 where
   pub inside : end ≤ length t
   pub counted : i < 1024
 
-no_end : {q : Fault} {end : ℕ} → ◌≡◌ {A = Result ℕ Fault} (Err q) (Ok end) → ⊥
-no_end e = let z : ◌≡◌ {A = ℕ} 0 1 = cc in omega arith
-
 pub frame-ok : (t : List ℕ) (at i end : ℕ) → frame_at t at i ≡ Ok end → FrameOk t at i end
 unfolding frame_at
-frame-ok t at i end e =
-    let a = below_fails no_end _ _ _ e in
-    let b = equal-passes no_end _ _ _ a.1 in
-    let c = below_fails no_end _ _ _ b.1 in
-    let d = below-passes no_end _ _ _ c.1 in
-    let z : at + 4 + number_at t at ≡ end = cc d.1 in
-    record { kind_is = b.0; end_is = sym z; inside = omega arith; counted = d.0 }
+frame-ok t at i end e = grind (arith, choices)
 
-module _ (s : Shape) (t : List ℕ) (at i : ℕ) where
-  pub row-unframed : (q : Fault) → frame_at t at i ≡ Err q → read_row s t at i ≡ fails q
-  unfolding read_row
-  row-unframed q e = rw e
+pub row-framed : (s : Shape) (t : List ℕ) (at i end : ℕ) → frame_at t at i ≡ Ok end → read_row s t at i ≡ read_payload s t at end
+unfolding read_row
+row-framed s t at i end e = rw e
 
-  pub row-framed : (end : ℕ) → frame_at t at i ≡ Ok end → read_row s t at i ≡ read_payload s t at end
-  unfolding read_row
-  row-framed end e = rw e
-
-  pub row_told : (end : ℕ) → frame_at t at i ≡ Ok end → (r : Result Progress Fault) (size channels : ℕ) (m : Filled) (old new : Memory)
-      → RowTold r (read_payload s t at end) size channels at m old new → RowTold r (read_row s t at i) size channels at m old new
-  row_told end e r size channels m old new h = rw (row-framed end e) h
+pub ruleset frames = (frame-ok)

@@ -9,4 +9,4 @@ pub mod records;
 
 // What the later parts name.
 pub use crate::reading::read_list;
-pub use crate::records::product_number;
+pub use crate::records::{KIND, product_number};

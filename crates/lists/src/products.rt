@@ -8,8 +8,8 @@ use atoms::masks::is_atom;
 use reader::numbers::byte_at;
 use table::Fault;
 
-// A record: where it starts, where its payload ends, and how many messages the table has. The bounds that each function asks stand in its clauses:
-// the definitions of what is read take a frame and the list apart, and hold for frames that are out of bounds too.
+// A record: where it starts, where its payload ends, and how many messages the table has. The definitions of what is read take a frame and the list
+// apart, and hold for frames that are out of bounds too.
 #[derive(Clone, Copy, Debug, PartialEq, Eq)]
 pub struct Frame {
     pub at: usize,
@@ -24,77 +24,90 @@ pub struct Progress {
     pub atoms: usize,
 }
 
-// The atom at a place of a record. Inner.
-fn read_atom(list: &[u8], f: Frame, from: usize) -> Result<u16, Fault>
-    requires { (f.at ≤ from) × (from ≤ f.end) × (f.end ≤ length list.now) × (f.messages ≤ 15) }
-    ensures { AtomTold result (read_atom f list.now from) (from + 2) }
-{
-    if f.end - from < 2 {
-        return Err(Fault::Length);
-    }
-    let a = u16::from_le_bytes([list[from], list[from + 1]]);
-    if !is_atom(a, f.messages) {
-        return Err(Fault::Field(from - f.at));
-    }
-    Ok(a)
+// A record with the list that holds it.
+#[derive(Clone, Copy)]
+pub struct Framed<'a> {
+    pub list: &'a [u8],
+    pub frame: Frame,
+    pub ghost ends: { frame.end ≤ length list.now },
+    pub ghost few: { frame.messages ≤ 15 },
 }
 
-// Reads count atoms from a place on, to the places of atoms from `used` on. Inner.
-fn read_atoms(
-    list: &[u8],
-    f: Frame,
-    from: usize,
-    count: usize,
-    used: usize,
-    atoms: &mut [u16],
-) -> Result<(), Fault>
-    requires { (f.at ≤ from) × (from ≤ f.end) × (f.end ≤ length list.now) × (f.messages ≤ 15) × (count ≤ 24) × (used + count ≤ length atoms.old) }
-    ensures { AtomsTold result (read_many (read_atom f list.now) count from) f.end (from + 2 * count) count used atoms.old atoms.new }
-{
-    for k in 0..count {
-        atoms[used + k] = read_atom(list, f, from + 2 * k)?;
+impl Framed<'_> {
+    // The atom at a place of the record. Inner.
+    #[tactic(auto, using(common::proofs::ChoiceLaws::choices), unfolding(crate::specs::Reading::read_atom, reader::specs::Bytes::number_at))]
+    fn read_atom(&self, from: usize) -> Result<u16, Fault>
+        requires { (self.now.frame.at ≤ from) × (from ≤ self.now.frame.end) }
+        ensures { AtomTold result (read_atom self.now.frame self.now.list.now from) (from + 2) }
+    {
+        if self.frame.end - from < 2 {
+            return Err(Fault::Length);
+        }
+        let a = u16::from_le_bytes([self.list[from], self.list[from + 1]]);
+        if !is_atom(a, self.frame.messages) {
+            return Err(Fault::Field(from - self.frame.at));
+        }
+        Ok(a)
     }
-    Ok(())
-}
 
-// Reads the product at a place of a record, to the places of atoms behind those so far. Inner.
-fn read_product(list: &[u8], f: Frame, from: Progress, atoms: &mut [u16]) -> Result<Progress, Fault>
-    requires { (f.at ≤ from.at) × (from.at ≤ f.end) × (f.end ≤ length list.now) × (f.messages ≤ 15) × (from.atoms + 24 ≤ length atoms.old) }
-    ensures { ProductTold result (read_product f list.now from.at) f.end from atoms.old atoms.new }
-{
-    if f.end <= from.at {
-        return Err(Fault::Length);
+    // Reads count atoms from a place on, to the places of atoms from `used` on. Inner.
+    #[tactic(auto, using(crate::proofs::AtomLaws::atom_turns))]
+    fn read_atoms(
+        &self,
+        from: usize,
+        count: usize,
+        used: usize,
+        atoms: &mut [u16],
+    ) -> Result<(), Fault>
+        requires { (self.now.frame.at ≤ from) × (from ≤ self.now.frame.end) × (count ≤ 24) × (used + count ≤ length atoms.old) }
+        ensures { AtomsTold result (read_many (read_atom self.now.frame self.now.list.now) count from) self.now.frame.end (from + 2 * count) count used atoms.old atoms.new }
+    {
+        for k in 0..count {
+            atoms[used + k] = self.read_atom(from + 2 * k)?;
+        }
+        Ok(())
     }
-    let count = byte_at(list, from.at);
-    if 24 < count {
-        return Err(Fault::Field(from.at - f.at));
-    }
-    read_atoms(list, f, from.at + 1, count, from.atoms, atoms)?;
-    Ok(Progress {
-        at: from.at + 1 + 2 * count,
-        atoms: from.atoms + count,
-    })
-}
 
-// Reads the products of all channels, from a place on: their atoms to the places of atoms behind those so far, and the place behind each
-// product's atoms to starts, behind its first `first` + 1. Inner.
-pub fn read_products(
-    list: &[u8],
-    f: Frame,
-    from: Progress,
-    channels: usize,
-    first: usize,
-    starts: &mut [usize],
-    atoms: &mut [u16],
-) -> Result<Progress, Fault>
-    requires inside { (f.at ≤ from.at) × (from.at ≤ f.end) × (f.end ≤ length list.now) × (f.messages ≤ 15) × (channels ≤ 4) }
-    requires room { (from.atoms + 96 ≤ length atoms.old) × (first + 5 ≤ length starts.old) }
-    ensures { ProductsTold result (read_many (read_product f list.now) channels from.at) f.end from first (products starts.old atoms.old) (products starts.new atoms.new) }
-{
-    let mut next = from;
-    for c in 0..channels {
-        next = read_product(list, f, next, atoms)?;
-        starts[first + c + 1] = next.atoms;
+    // Reads the product at a place of the record, to the places of atoms behind those so far. Inner.
+    #[tactic(auto, using(common::proofs::ChoiceLaws::choices), unfolding(crate::specs::Reading::read_product))]
+    fn read_product(&self, from: Progress, atoms: &mut [u16]) -> Result<Progress, Fault>
+        requires { (self.now.frame.at ≤ from.at) × (from.at ≤ self.now.frame.end) × (from.atoms + 24 ≤ length atoms.old) }
+        ensures { ProductTold result (read_product self.now.frame self.now.list.now from.at) self.now.frame.end from atoms.old atoms.new }
+    {
+        if self.frame.end <= from.at {
+            return Err(Fault::Length);
+        }
+        let count = byte_at(self.list, from.at);
+        if 24 < count {
+            return Err(Fault::Field(from.at - self.frame.at));
+        }
+        self.read_atoms(from.at + 1, count, from.atoms, atoms)?;
+        Ok(Progress {
+            at: from.at + 1 + 2 * count,
+            atoms: from.atoms + count,
+        })
     }
-    Ok(next)
+
+    // Reads the products of all channels, from a place on: their atoms to the places of atoms behind those so far, and the place behind each
+    // product's atoms to starts, behind its first `first` + 1. Inner.
+    #[tactic(auto, using(crate::proofs::ProductLaws::product_turns))]
+    pub fn read_products(
+        &self,
+        from: Progress,
+        channels: usize,
+        first: usize,
+        starts: &mut [usize],
+        atoms: &mut [u16],
+    ) -> Result<Progress, Fault>
+        requires inside { (self.now.frame.at ≤ from.at) × (from.at ≤ self.now.frame.end) × (channels ≤ 4) }
+        requires room { (from.atoms + 96 ≤ length atoms.old) × (first + 5 ≤ length starts.old) }
+        ensures { ProductsTold result (read_many (read_product self.now.frame self.now.list.now) channels from.at) self.now.frame.end from first (products starts.old atoms.old) (products starts.new atoms.new) }
+    {
+        let mut next = from;
+        for c in 0..channels {
+            next = self.read_product(next, atoms)?;
+            starts[first + c + 1] = next.atoms;
+        }
+        Ok(next)
+    }
 }

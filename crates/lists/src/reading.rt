@@ -6,7 +6,9 @@ ghost use Rattle.lists.specs.Loading.{ListTold, memory};
 use crate::records::{Filled, read_row};
 use table::{Refusal, Shape};
 
-// Reads a list for a table of that shape, and answers how many rows it has. A good list's rows are left in states, starts and atoms. Inner.
+// Reads a list for a table of that shape, and answers how many rows it has. A good list's rows are left in states, starts and atoms. It takes any shape
+// within the limits, and no Table, which would ask for its bytes too. Inner.
+#[tactic(auto, using(crate::proofs::ListLaws::row_turns), unfolding(crate::specs::Steps::RowTold))]
 pub fn read_list(
     list: &[u8],
     s: Shape,

@@ -4,9 +4,12 @@ ghost use Rattle.lists.specs.Reading.{frame_at, read_payload, read_row};
 ghost use Rattle.lists.specs.Loading.{memory};
 ghost use Rattle.lists.specs.Steps.{Room, RowTold};
 
-use crate::products::{Frame, Progress, read_products};
+use crate::products::{Frame, Framed, Progress};
 use reader::numbers::number_at;
 use table::{Fault, Shape};
+
+// The kind of a list's records. They have no other, so that an enum of kinds would have one.
+pub const KIND: usize = 16;
 
 // How much of the memory is filled: so many rows, products of rows, and atoms of products.
 #[derive(Clone, Copy, Debug, PartialEq, Eq)]
@@ -18,6 +21,7 @@ pub struct Filled {
 
 // The tests that each list record has before its payload is looked at, where i rows came before: four bytes there, kind, payload there, count.
 // Inner.
+#[tactic(auto, using(common::proofs::ChoiceLaws::choices), unfolding(crate::specs::Reading::frame_at))]
 fn frame_at(list: &[u8], at: usize, i: usize) -> Result<usize, Fault>
     requires { at ≤ length list.now }
     ensures { result ≡ frame_at list.now at i }
@@ -29,8 +33,7 @@ fn frame_at(list: &[u8], at: usize, i: usize) -> Result<usize, Fault>
     let size = number_at(list, at);
     let kind = number_at(list, at + 2);
     let payload = left - 4;
-    // A list's records have no other kind, so that an enum of kinds would have one.
-    if kind != 16 {
+    if kind != KIND {
         return Err(Fault::Kind);
     }
     if payload < size {
@@ -44,6 +47,7 @@ fn frame_at(list: &[u8], at: usize, i: usize) -> Result<usize, Fault>
 
 // Reads the row in the payload that ends at a place: state, products, and nothing over. The three lent slices stay apart: a struct of them would
 // add, to each function that it goes through, the promise that it still holds the same three. Inner.
+#[tactic(auto, using(common::proofs::ChoiceLaws::choices), unfolding(crate::specs::Steps::RowTold, crate::specs::Reading::read_payload))]
 fn read_payload(
     list: &[u8],
     s: Shape,
@@ -65,16 +69,19 @@ fn read_payload(
         return Err(Fault::Field(4));
     }
     states[m.rows] = state;
-    let f = Frame {
-        at,
-        end,
-        messages: s.messages,
+    let record = Framed {
+        list,
+        frame: Frame {
+            at,
+            end,
+            messages: s.messages,
+        },
     };
     let from = Progress {
         at: at + 6,
         atoms: m.atoms,
     };
-    let next = read_products(list, f, from, s.channels, m.products, starts, atoms)?;
+    let next = record.read_products(from, s.channels, m.products, starts, atoms)?;
     if next.at < end {
         return Err(Fault::Length);
     }
@@ -82,6 +89,7 @@ fn read_payload(
 }
 
 // Reads the row whose record stands at a place. Inner.
+#[tactic(auto, using(crate::proofs::RowLaws::frames), unfolding(crate::specs::Steps::RowTold, crate::specs::Reading::read_row))]
 pub fn read_row(
     list: &[u8],
     s: Shape,

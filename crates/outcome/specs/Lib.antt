@@ -1,4 +1,3 @@
 -- What the functions of a move's outcome, and of the look for a row that contains it, answer and leave.
 pub mod Outcomes
 pub mod Look
-pub mod Changes

@@ -19,7 +19,8 @@ row_at w i = record { state = get_or w (103 * i) 0; products = product_at w i }
 abbrev pub rows_at : List ℕ → ℕ → ℕ → List Row
 rows_at w = look.rows_from (row_at w)
 
--- The outcome: in the target state, with the products of row i but for q at one channel.
+-- The outcome: in the target state, with the products of row i but for q at one channel. It is of parts, as the search's laws have them; that of crate
+-- rows is of an outcome in memory.
 abbrev pub outcome_row : List ℕ → ℕ → ℕ → ℕ → List ℕ → Row
 outcome_row w target i channel q = record { state = target; products = put (row_at w i).products channel q }
 

@@ -1,23 +1,22 @@
 // The outcome of a move, channel by channel: only the channel that it changes is copied, and brought to normal form there. The buffer for it is a slice of
-// at least 25 words and no array, as in the search: sent_into, received_into and outcome_into are public, and an array would ask more of their callers.
+// at least 25 words and no array, as in the search: docs/ARCHITECTURE.md names outcome_into, and an array would ask more of its callers.
 ghost use Rattle.std.specs.Prelude.{◌≡◌, ℕ, ◌<◌, ◌≤◌, length};
 ghost use Rattle.atoms.specs.Normal.{normal};
-ghost use Rattle.atoms.specs.Receive.{received};
 ghost use Rattle.meaning.specs.Systems.{Ranged};
 ghost use Rattle.table.specs.Transitions.{operation_of};
+ghost use Rattle.rows.specs.Changes.{changed_in, FewChanged};
 ghost use Rattle.rows.specs.Outcomes.{normal_after};
-ghost use Rattle.outcome.specs.Outcomes.{Sent, changed_to, FewLeft};
 ghost use Rattle.outcome.specs.Look.{product_at};
-ghost use Rattle.outcome.specs.Changes.{changed_in, FewChanged};
+ghost use Rattle.outcome.specs.Outcomes.{Sent};
 
 use crate::reading::WorkRows;
-use atoms::products::{add_atom, received};
-use rows::{Changed, Rows, sent_atom};
+use atoms::products::add_atom;
+use rows::{Changed, Rows, received_into, sent_atom};
 use table::Operation;
 use work::places::CHANNELS;
 
 // A send: the product, which is in normal form, with the atom added and brought to normal form, in the buffer's first words. Answers how many atoms
-// it has. Inner.
+// it has. That a product is in normal form is no fact of a type: add_atom writes it in place, where it is so only between calls. Inner.
 pub fn sent_into(product: &[u16], atom: u16, buffer: &mut [u16]) -> usize
     requires lengths { (length product.now ≤ 24) × (25 ≤ length buffer.old) }
     requires in_normal_form { normal product.now ≡ product.now }
@@ -28,20 +27,9 @@ pub fn sent_into(product: &[u16], atom: u16, buffer: &mut [u16]) -> usize
     add_atom(buffer, n, atom)
 }
 
-// A receive of m: what is left of the product, in the buffer's first words. Answers how many atoms that are; none where the receive is impossible.
-// What is left of a product in normal form is in normal form. Inner.
-pub fn received_into(product: &[u16], m: usize, buffer: &mut [u16]) -> Option<usize>
-    requires { (length product.now ≤ 24) × (25 ≤ length buffer.old) × (m < 15) }
-    ensures buffer_after { changed_to result buffer.new ≡ received m product.now }
-    ensures few_left { FewLeft result }
-{
-    let left = received(product, m)?;
-    buffer[..left.len()].copy_from_slice(left);
-    Some(left.len())
-}
-
 // The outcome of an operation from row i, `loops` where it is a self-loop send's: the product that changes, in the buffer's first words; none where
-// the operation is impossible. Inner.
+// the operation is impossible. The judge has such a match too: it keeps no normal form, and one function would take the send with its promise as a
+// parameter, with the two named in docs/ARCHITECTURE.md still around it. Inner.
 pub fn outcome_into(
     rows: &WorkRows,
     i: usize,
@@ -56,6 +44,7 @@ pub fn outcome_into(
     ensures few_changed { FewChanged result }
 {
     match operation {
+        // Channel 4 is none, as crate rows says beside Changed.
         Operation::Quiet => Some(Changed {
             channel: CHANNELS,
             count: 0,

@@ -1,20 +1,42 @@
 -- Words that play to an end are a run; reaches bad means that a bad state can be reached.
-use Rattle.std.proofs.Common.{refl, sym, ap, subst, ◌∙◌, inl, inr, append-nil, arith, ◌≡◌, Bool, true, false, ◌⊎◌, List, [], ◌∷◌, ◌++◌, ℕ, suc, ◌+◌, length}
+use Rattle.std.proofs.Common.{refl, sym, ap, subst, ◌∙◌, inl, inr, append-nil, arith, ◌≡◌, Bool, true, false, ◌⊎◌, List, [], ◌∷◌, ◌++◌, ℕ, suc, ◌+◌, ◌%◌, ◌<◌, length, lt-ltb, le-ltb, ltb-true, ltb-false}
+use Rattle.std.proofs.Math.Nat.{mod-mod}
+use Rattle.std.proofs.lemmas.Nat.{mod_below}
 use mathlib.Core.List.{Memᴰ}
 use Rattle.std.proofs.Math.Option.{Option, none, some, map, none-ne-some, some-injective}
 use Rattle.std.proofs.Math.ListN.{get_elem?}
 use Rattle.common.specs.First.{is_in}
 use Rattle.common.proofs.AtLaws.{At, mem-at}
+use Rattle.common.proofs.BoolLaws.{either}
 use Rattle.common.proofs.ChoiceLaws.{eq-then, eq-cases, true-cases}
 use Rattle.common.proofs.FirstLaws.{in-iff}
 use Rattle.meaning.specs.Words.{Word}
 use Rattle.meaning.specs.Systems.{Operation, quiet, send, Move, System, Contents, Config, put, Operates, Step, Run, stay, step, start_of, Reachable, Bad}
 use Rattle.meaning.proofs.PutLaws.{put_same, put-put, put_id}
 use Rattle.meaning.proofs.RunLaws.{run-then}
-use Rattle.playing.specs.Play.{number, lost, taken, operated, play_move, play_word, Played, stuck_at, ends_in, play, ends_elsewhere, reaches_bad, judge_end, replay}
+use Rattle.playing.specs.Play.{number, lost, word_of, taken, operated, play_move, play_word, Played, stuck_at, ends_in, play, ends_elsewhere, reaches_bad, judge_end, replay}
 
 abbrev at : ℕ → Contents → Config
 at s f = record { state = s; contents = f }
+
+-- ---- a step's word
+
+-- It says the transition's number, without what stood above bit 14, and the loss.
+pub number-of-word : (n : ℕ) (b : Bool) → number (word_of n b) ≡ n % 32768
+number-of-word n true = let k = mod_below n 32768 (omega arith) in omega arith
+number-of-word n false = mod-mod n 32768
+
+pub lost-of-word : (n : ℕ) (b : Bool) → lost (word_of n b) ≡ b
+lost-of-word n true = lt-ltb 32767 _ (omega arith)
+lost-of-word n false = let k = mod_below n 32768 (omega arith) in le-ltb 32767 _ (omega arith)
+
+-- A word is the one that is made of what it says.
+pub word-of-said : (w : ℕ) → w < 65536 → word_of (number w) (lost w) ≡ w
+word-of-said w h = go (either (lost w))
+  where
+    go : (lost w ≡ true) ⊎ (lost w ≡ false) → word_of (number w) (lost w) ≡ w
+    go (inl e) = let l = ltb-true 32767 w e in rw e (omega arith)
+    go (inr e) = let l = ltb-false 32767 w e in rw e (omega arith)
 
 -- ---- one word
 

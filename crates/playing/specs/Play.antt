@@ -14,6 +14,11 @@ number w = w % 32768
 abbrev pub lost : ℕ → Bool
 lost w = ltb 32767 w
 
+-- The word of a step with the transition numbered n, whose message is lost where b says so.
+abbrev pub word_of : ℕ → Bool → ℕ
+word_of n true = n % 32768 + 32768
+word_of n false = n % 32768
+
 -- The word with m taken from its head, if it stands there.
 abbrev pub taken : ℕ → Word → Option Word
 taken m [] = none

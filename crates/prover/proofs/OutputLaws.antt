@@ -1,29 +1,23 @@
 -- What is made of a table, case by case.
-use Rattle.std.proofs.Common.{◌≡◌, refl, sym, ap, subst, ◌∙◌, Bool, true, false, cond, ◌⊎◌, inl, inr, List, Option, Some, None, IfSome, Result, Ok, Err, ℕ, ◌+◌, ◌<◌, ◌≤◌, ◌^◌, ltb, length, arith}
+use Rattle.std.proofs.Common.{◌≡◌, refl, sym, ap, subst, ◌∙◌, Bool, true, false, cond, List, Option, Some, None, IfSome, Ok, Err, ℕ, ◌+◌, ◌<◌, ◌≤◌, ◌^◌, ltb, length, arith}
 use Rattle.common.specs.Choice.{if_lt}
 use Rattle.common.specs.Front.{front}
-use Rattle.common.proofs.ChoiceLaws.{lt-then, lt-else, lt-cases}
-use Rattle.table.specs.Answers.{number_of, place_of}
-use Rattle.table.specs.Checking.{check_table}
+use Rattle.common.proofs.ChoiceLaws.{choices}
 use Rattle.table.specs.Systems.{system_of}
-use Rattle.table.specs.declared.faults.Refusal.{Refusal}
-use Rattle.table.specs.declared.checks.Shape.{Shape}
 use Rattle.work.specs.Layout.{all_words}
-use Rattle.work.specs.Room.{room_of}
 use Rattle.search.specs.Searching as search
 use Rattle.search.specs.Searching.{search_with, search_of, Leaves, Searches}
 use Rattle.search.specs.declared.searches.Verdict.TheVariants.{Safe, Unsafe, RowsFull, AtomsFull}
 use Rattle.search.proofs.SearchLaws.{search-counted}
-use Rattle.writer.specs.Fitting.{first_not, row_passes}
 use Rattle.writer.specs.Writing.{written, written_for, written_with, bytes_for, after_look, bytes_of, left_by}
 use Rattle.writer.specs.Answers.{answer}
 use Rattle.writer.specs.Writing as writer
 use Rattle.writer.specs.declared.calls.Refused.TheVariants.{Table, BadRow, TooSmall}
 use Rattle.wording.specs.Written.{Written}
-use Rattle.wording.specs.Lines.{safe_line, refused_line}
+use Rattle.wording.specs.Lines.{safe_line}
 use Rattle.wording.specs.Answers.{bytes_line, long_table_line}
 use Rattle.wording.specs.Steps.{Answer, answer_text}
-use Rattle.wording.proofs.LineLaws.{safe-length, one-length, counted-length, long-number}
+use Rattle.wording.proofs.LineLaws.{refusal-room, safe-length, one-length, counted-length, long-number}
 use Rattle.wording.proofs.WrittenLaws.{written-length, written_then}
 use Rattle.verdicts.specs.Said.{said_by}
 use Rattle.verdicts.proofs.SaidLaws.{left-says}
@@ -95,59 +89,12 @@ module _ (t w old run : List ℕ) (a : length w ≡ 105472) (b : length run ≡ 
         (other-made t w old (search_of t (length w) (length run)) run v w' run' d l m list r e
         (left-says (search_of t (length w) (length run)) w run v w' run' d (search-counted t (length w) (length run))) g y)
 
--- ---- any table
-
-module _ (t w old l m : List ℕ) where
-  pub long-made : (r : ℕ) → 36874 < length t → Written l 0 long_table_line m r → Makes (made t w old) l m old (text_alone r)
-  unfolding made
-  long-made r h y = subst (λ (x : Made). Makes x l m old (text_alone r)) (lt-then _ _ _ _ h refl) (record { written = y; size = refl; held = refl })
-
-  pub good-made : (list : List ℕ) (r : Output) → length t ≤ 36874 → Makes (found t w old) l m list r → Makes (made t w old) l m list r
-  unfolding made
-  good-made list r h z = subst (λ (x : Made). Makes x l m list r) (lt-else _ _ _ _ h refl) z
-
-  pub refused-made : (r : ℕ) (f : Refusal) → length t ≤ 36874 → check_table t ≡ Err f → Written l 0 (refused_line (number_of f.fault) (place_of f.fault f.at)) m r
-      → Makes (made t w old) l m old (text_alone r)
-  unfolding found searched search_of
-  refused-made r f h e y =
-      good-made old (text_alone r) h
-      (subst (λ (x : Result Shape Refusal). Makes (made_by t w old (search_with t 105472 2048 x) (safe_rows (search_with t 105472 2048 x).answer)) l m old (text_alone r)) (sym e)
-      (record { written = y; size = refl; held = refl }))
-
 -- ---- what is told is there
 
 -- A list that is written fits.
 written-fits : (t w : List ℕ) (rows size n : ℕ) → written t w rows size ≡ Ok n → n ≤ size
 unfolding written written_for
-written-fits t w rows size n e = table (check_table t) e
-  where
-    no_bytes : {i : ℕ} → Err (BadRow i) ≡ Ok n → n ≤ size
-    no_bytes d = absurd (let z : ◌≡◌ {A = ℕ} 0 1 = cc in omega arith)
-
-    no-small : {i : ℕ} → Err (TooSmall i) ≡ Ok n → n ≤ size
-    no-small d = absurd (let z : ◌≡◌ {A = ℕ} 0 1 = cc in omega arith)
-
-    no_table : {r : Refusal} → Err (Table r) ≡ Ok n → n ≤ size
-    no_table d = absurd (let z : ◌≡◌ {A = ℕ} 0 1 = cc in omega arith)
-
-    same_bytes : {i : ℕ} → ◌≡◌ {A = writer.Written} (Ok i) (Ok n) → i ≡ n
-    same_bytes d = cc
-
-    fits : {i : ℕ} → ((size < i) × (Err (TooSmall i) ≡ Ok n)) ⊎ ((i ≤ size) × (◌≡◌ {A = writer.Written} (Ok i) (Ok n))) → n ≤ size
-    fits (inl c) = no-small c.1
-    fits (inr c) = omega (arith, same_bytes c.1, c.0)
-
-    look : (s : Shape) (r : Option ℕ) → after_look (bytes_for s w rows) size r ≡ Ok n → n ≤ size
-    look s (Some i) d = no_bytes d
-    look s None d = fits (lt-cases _ _ _ _ d)
-
-    room : (s : Shape) (r : Option ℕ) → ((room_of (length w) < rows) × (Err (BadRow (room_of (length w))) ≡ Ok n)) ⊎ ((rows ≤ room_of (length w)) × (after_look (bytes_for s w rows) size r ≡ Ok n)) → n ≤ size
-    room s r (inl c) = no_bytes c.1
-    room s r (inr c) = look s r c.1
-
-    table : (k : Result Shape Refusal) → written_with w rows size k ≡ Ok n → n ≤ size
-    table (Err r) d = no_table d
-    table (Ok s) d = room s (first_not (row_passes s w) rows 0) (lt-cases _ _ _ _ d)
+written-fits t w rows size n e = grind (arith, choices)
 
 -- What is made has no larger list than there is room for.
 abbrev Few : Made → Type 0
@@ -176,3 +123,7 @@ made_inside t w old l m list r z h =
     let e = written-length l 0 (made t w old).text m r.text z.written in
     let i = z.written.inside in
     (omega arith, rw (z.size, h) (made-few t w old))
+
+pub ruleset rooms = (bytes-room, safe-room, refusal-room)
+
+pub ruleset inside = (made_inside)

@@ -1,48 +1,26 @@
 // What is made of a table's bytes. The output stays a slice of at least 28,732 bytes: docs/CONTRACTS.md names write_answer, and an array would ask more of
-// its callers. Refusals are written as numbers, as every caller sees them.
-ghost use Rattle.std.specs.Prelude.{◌≡◌, ◌+◌, ◌≤◌, length, Err};
-ghost use Rattle.wording.specs.Written.{Written};
+// its callers. Work table, run buffer, list and output are lent apart for the same reason: a struct would own them or lend all four for as long.
+ghost use Rattle.std.specs.Prelude.{◌≡◌, ◌+◌, ◌≤◌, length};
 ghost use Rattle.writer.specs.Answers.{answer};
 ghost use Rattle.writer.specs.Writing.{written, bytes_of};
-ghost use Rattle.prover.specs.Output.{list_line, listed, found, made, Tells, Makes};
+ghost use Rattle.prover.specs.Output.{listed, found, made, Tells, Makes};
 
 use search::searches::{Verdict, search_good};
-use table::Table;
-use verdicts::write_verdict;
+use table::{Table, Told};
+use verdicts::{write_refused, write_verdict};
 use wording::Line;
-use wording::lines::{fault_line, input_fault_line};
 use writer::{Refused, write_list};
 
-// What is to be written: a text of so many bytes, and a list of so many bytes where there is one.
+// What is to be written: a text of so many bytes, and a list of so many bytes where there is one. Sizes and no slices: a slice lent from `out` or `list`
+// would end what is promised of what they hold afterwards.
 #[derive(Clone, Copy, Debug, PartialEq, Eq)]
 pub struct Output {
     pub text: usize,
     pub list: Option<usize>,
 }
 
-// Writes why there is no list, from a place on.
-fn write_refused(refused: Refused, out: &mut [u8], at: usize) -> usize
-    requires { at + 80 ≤ length out.old }
-    ensures { Written out.old at (list_line (answer (Err refused))) out.new result }
-{
-    match refused {
-        Refused::Table(refusal) => input_fault_line(out, at, refusal, 0),
-        Refused::BadRow(place) => Line::InputRefused {
-            number: 9,
-            input: 3,
-            place,
-        }
-        .write(out, at),
-        Refused::TooSmall(place) => Line::InputRefused {
-            number: 10,
-            input: 3,
-            place,
-        }
-        .write(out, at),
-    }
-}
-
 // Writes what is said of the list, from a place on.
+#[tactic(auto, using(crate::proofs::OutputLaws::rooms))]
 fn write_listed(listed: Result<usize, Refused>, out: &mut [u8], at: usize) -> Output
     requires { at + 80 ≤ length out.old }
     ensures { Tells (answer listed) out.old at out.new result }
@@ -56,13 +34,14 @@ fn write_listed(listed: Result<usize, Refused>, out: &mut [u8], at: usize) -> Ou
             }
         }
         Err(refused) => {
-            let text = write_refused(refused, out, at);
+            let text = Line::from(Told::from(refused)).write(out, at);
             Output { text, list: None }
         }
     }
 }
 
 // Makes text and list for a safe table, of the rows that the search made.
+#[tactic(auto, using(crate::proofs::OutputLaws::rooms))]
 fn write_safe(
     t: &[u8],
     work: &[u16],
@@ -98,6 +77,7 @@ fn write_good(
 }
 
 // Makes text and list for the bytes of a table.
+#[tactic(auto, using(common::proofs::ChoiceLaws::choices), unfolding(crate::specs::Output::made, crate::specs::Output::found, crate::specs::Output::searched, search::specs::Searching::search_of))]
 pub fn write_answer(
     t: &[u8],
     work: &mut [u16; 105472],
@@ -115,7 +95,7 @@ pub fn write_answer(
     match Table::check(t) {
         Ok(table) => write_good(&table, work, run, list, out),
         Err(refusal) => {
-            let text = fault_line(out, 0, refusal);
+            let text = write_refused(out, refusal.into());
             Output { text, list: None }
         }
     }

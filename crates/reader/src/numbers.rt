@@ -11,6 +11,7 @@ pub fn byte_at(t: &[u8], at: usize) -> usize
 }
 
 // The number in the two bytes at a place. Inner: the bytes are there.
+#[tactic(auto, unfolding(crate::specs::Bytes::number_at))]
 pub fn number_at(t: &[u8], at: usize) -> usize
     requires { at + 1 < length t.now }
     ensures { result ≡ number_at t.now at }

@@ -34,20 +34,6 @@ impl<'a> Reader<'a> {
     }
 }
 
-// The record that a reader finds at a place of a table; for callers that hold a plain slice.
-pub fn record_from(t: &[u8], at: usize) -> Option<Record>
-    ensures { result ≡ record_at t.now at }
-{
-    Reader::before(t, at).record()
-}
-
-// That record's payload, as that part of the table; for the same callers.
-pub fn payload_from(t: &[u8], at: usize) -> &[u8]
-    ensures { result.now ≡ payload_at t.now at }
-{
-    Reader::before(t, at).payload()
-}
-
 // The place of a record inside which the bytes end.
 #[derive(Clone, Copy, Debug, PartialEq, Eq)]
 pub struct Cut {
@@ -60,11 +46,11 @@ pub fn walk_records(t: &[u8]) -> Result<usize, Cut>
     ensures { result ≡ walk_records t.now }
 {
     let mut count: usize = 0;
-    let mut at: usize = 0;
-    while at < t.len() {
-        let record = record_from(t, at).ok_or(Cut { at })?;
+    let mut here = Reader::before(t, 0);
+    while here.at < t.len() {
+        let record = here.record().ok_or(Cut { at: here.at })?;
         count += 1;
-        at = record.next;
+        here.at = record.next;
     }
     Ok(count)
 }

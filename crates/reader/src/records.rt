@@ -13,6 +13,7 @@ pub struct Record {
 }
 
 // The record at a place; none where the bytes end inside it. Any place is taken.
+#[tactic(auto, using(common::proofs::ChoiceLaws::choices), unfolding(crate::specs::Records::record_at))]
 pub fn record_at(t: &[u8], at: usize) -> Option<Record>
     ensures { result ≡ record_at t.now at }
 {
@@ -29,6 +30,7 @@ pub fn record_at(t: &[u8], at: usize) -> Option<Record>
 }
 
 // The payload of size bytes of the record at a place, as that part of the lent table. Inner: the bytes are there.
+#[tactic(auto, unfolding(crate::specs::Records::part_of))]
 pub fn part_of(t: &[u8], at: usize, size: usize) -> &[u8]
     requires { at + 4 + size ≤ length t.now }
     ensures { result.now ≡ part_of t.now at size }
@@ -38,6 +40,7 @@ pub fn part_of(t: &[u8], at: usize, size: usize) -> &[u8]
 }
 
 // The payload of the record at a place, as that part of the lent table; nothing of it where the bytes end inside the record.
+#[tactic(auto, using(common::proofs::ChoiceLaws::choices), unfolding(crate::specs::Records::record_at, crate::specs::Records::payload_at))]
 pub fn payload_at(t: &[u8], at: usize) -> &[u8]
     ensures { result.now ≡ payload_at t.now at }
 {

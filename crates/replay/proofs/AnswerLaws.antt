@@ -1,5 +1,6 @@
 -- The replay's answer: what it says, and that there is one for each table and run.
-use Rattle.std.proofs.Common.{◌≡◌, refl, sym, ap, ◌∙◌, Bool, true, false, cond, List, ℕ, ◌<◌, ◌≤◌, ltb, length}
+use Rattle.std.proofs.Common.{◌≡◌, refl, sym, ap, ◌∙◌, inl, inr, List, ℕ, ◌<◌, ◌≤◌, length}
+use Rattle.std.proofs.lemmas.Bool.{cases_lt}
 use Rattle.std.specs.Prelude.{Result, Ok, Err}
 use Rattle.common.specs.Choice.{if_lt}
 use Rattle.common.proofs.ChoiceLaws.{lt-then, lt-else}
@@ -8,7 +9,7 @@ use Rattle.table.specs.Systems.{system_of}
 use Rattle.table.specs.declared.checks.Shape.{Shape}
 use Rattle.table.specs.declared.faults.Refusal as table
 use Rattle.playing.specs.Play.{Replayed, stuck, ends_elsewhere, reaches_bad, replay}
-use Rattle.replay.specs.Replaying.{refused, says, long_run, answer_with, replay_answer, answer_of, found, replay_with, replay_of, Replays}
+use Rattle.replay.specs.Replaying.{says, answer_with, replay_answer, answer_of, found, replay_with, replay_of, Replays}
 use Rattle.replay.specs.declared.replays.Ending.{Ending}
 use Rattle.replay.specs.declared.replays.Refused.{Refused}
 use Rattle.replay.specs.declared.replays.Refused.TheVariants.{Table, TooLong}
@@ -19,14 +20,6 @@ found-says (stuck n) = refl
 found-says (ends_elsewhere q) = refl
 found-says (reaches_bad n) = refl
 
-choice-says : (a b : ℕ) (x y : Result Ending Refused) → answer_of (if_lt a b x y) ≡ if_lt a b (answer_of x) (answer_of y)
-unfolding if_lt
-choice-says a b x y = go (ltb a b)
-  where
-    go : (u : Bool) → answer_of (cond u x y) ≡ cond u (answer_of x) (answer_of y)
-    go true = refl
-    go false = refl
-
 -- The call's one answer says what the rules say.
 pub replay-says : (t run : List ℕ) → answer_of (replay_of t run) ≡ replay_answer t run
 unfolding replay_of replay_answer
@@ -35,8 +28,10 @@ replay-says t run = go (check_table t)
     go : (c : Result Shape table.Refusal) → answer_of (replay_with t run c) ≡ answer_with t run c
     go (Err r) = refl
     go (Ok s) =
-        choice-says 2048 (length run) (Err TooLong) (Ok (found (replay (system_of t) run)))
-        ∙ ap (if_lt 2048 (length run) (refused long_run)) (found-says (replay (system_of t) run))
+        elim (cases_lt 2048 (length run)) [
+          | inl l ↦ ap answer_of (sym (lt-then _ _ _ _ l refl)) ∙ lt-then _ _ _ _ l refl
+          | inr l ↦ ap answer_of (sym (lt-else _ _ _ _ l refl)) ∙ lt-else _ _ _ _ l (found-says (replay (system_of t) run))
+        ]
 
 pub replays : (t run : List ℕ) (r : Result Ending Refused) → r ≡ replay_of t run → Replays t run r
 replays t run r e = record { says = ap answer_of e ∙ replay-says t run; exact = e }

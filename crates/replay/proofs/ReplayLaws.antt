@@ -1,11 +1,11 @@
 -- What the replay's answers mean for the system's runs: reaches bad means a run to a bad state, and the runs whose losses happen only at
 -- sends are run words that the replay plays.
-use Rattle.std.proofs.Common.{◌≡◌, refl, sym, ap, subst, ◌∙◌, Bool, true, false, ◌⊎◌, inl, inr, List, [], ◌∷◌, ◌++◌, append-nil, ℕ, ◌+◌, ◌%◌, ◌<◌, ◌≤◌, length, length-append, arith, lt-ltb, le-ltb}
+use Rattle.std.proofs.Common.{◌≡◌, refl, sym, ap, subst, ◌∙◌, Bool, true, false, ◌⊎◌, inl, inr, List, [], ◌∷◌, ◌++◌, append-nil, ℕ, suc, ◌+◌, ◌<◌, ◌≤◌, length, length-append, arith, lt-ltb, le-ltb}
 use Rattle.std.specs.Prelude.{Result, Ok, Err}
 use Rattle.std.proofs.Math.Option.{some, map}
 use Rattle.std.proofs.Math.ListN.{get_elem?}
 use mathlib.Core.List.{Memᴰ}
-use Rattle.common.proofs.AtLaws.{At, at-below, mem-at}
+use Rattle.common.proofs.AtLaws.{at-below, mem-at}
 use Rattle.common.proofs.ChoiceLaws.{eq-then, true-then, lt-cases}
 use Rattle.common.proofs.FirstLaws.{in-iff}
 use Rattle.meaning.specs.Words.{Word}
@@ -17,7 +17,7 @@ use Rattle.table.proofs.GoodLaws.{few-transitions}
 use Rattle.table.proofs.SystemLaws.{moves-length}
 use Rattle.table.specs.declared.checks.Shape.{Shape}
 use Rattle.table.specs.declared.faults.Refusal as table
-use Rattle.playing.specs.Play.{taken, operated, play_move, Replayed, reaches_bad, judge_end, replay}
+use Rattle.playing.specs.Play.{number, lost, taken, operated, play_move, Replayed, reaches_bad, judge_end, replay}
 use Rattle.playing.proofs.PlayLaws.{front-taken, replay-bad, Plays, plays-then, plays-none, plays-one}
 use Rattle.replay.specs.Replaying.{refused, says, long_run, answer_with, replay_answer, found, Replays}
 use Rattle.replay.specs.Runs as runs
@@ -86,45 +86,34 @@ lost-same t x y l =
     )
 
 module _ (S : System) (few : length S.moves ≤ 32768) where
+  -- A move that can be played is a word.
+  move-word : (b : Bool) (k : ℕ) → ((i : ℕ) → i < 32768 → (number (i + k) ≡ i) × (lost (i + k) ≡ b)) → (t : Move) (y z : Config) → Memᴰ t S.moves → play_move b t y ≡ some z
+      → (w : ℕ) × Plays S (w ∷ []) y z
+  move-word b k n t y z h p =
+      let a = (mem-at S.moves t).0 h in
+      let l = at-below S.moves a.0 t a.1 in
+      let e = n a.0 (omega arith) in
+      (a.0 + k, plays-one S (a.0 + k) t y z (ap (get_elem? S.moves) e.0 ∙ a.1) (ap (λ (g : Bool). play_move g t y) e.1 ∙ p))
+
   -- A plain move is its number; a send whose message is lost at once is its number and 32,768.
   plain_word : (t : Move) (y z : Config) → Memᴰ t S.moves → Moves t y z → (w : ℕ) × Plays S (w ∷ []) y z
-  plain_word t y z h m = go ((mem-at S.moves t).0 h)
-    where
-      go : (i : ℕ) × At S.moves i t → (w : ℕ) × Plays S (w ∷ []) y z
-      go (i, a) =
-          let b = at-below S.moves i t a in
-          let n : i % 32768 ≡ i = omega arith in (
-            i,
-            plays-one S i t y z (ap (get_elem? S.moves) n ∙ a)
-                (ap (λ (g : Bool). play_move g t y) (le-ltb 32767 i (omega arith)) ∙ move-played false t y z m.source m.target (plain-operated t.operation _ _ m.operates)),
-          )
+  plain_word t y z h m =
+      move-word false 0 (λ i l. (omega arith, le-ltb 32767 (i + 0) (omega arith))) t y z h (move-played false t y z m.source m.target (plain-operated t.operation _ _ m.operates))
 
   lost-word : (t : Move) (y z : Config) → Memᴰ t S.moves → LostAtOnce t y z → (w : ℕ) × Plays S (w ∷ []) y z
-  lost-word t y z h l = go ((mem-at S.moves t).0 h)
-    where
-      go : (i : ℕ) × At S.moves i t → (w : ℕ) × Plays S (w ∷ []) y z
-      go (i, a) =
-          let b = at-below S.moves i t a in
-          let n : (i + 32768) % 32768 ≡ i = omega arith in (
-            i + 32768,
-            plays-one S (i + 32768) t y z (ap (get_elem? S.moves) n ∙ a)
-                (ap (λ (g : Bool). play_move g t y) (lt-ltb 32767 (i + 32768) (omega arith))
-                ∙ move-played true t y z l.moves.source (l.loses.stays ∙ l.moves.target) (lost-operated t.operation _ _ l.channel l.message l.sends (lost-same t y z l))),
-          )
+  lost-word t y z h l =
+      move-word true 32768 (λ i l. (omega arith, lt-ltb 32767 (i + 32768) (omega arith))) t y z h
+      (move-played true t y z l.moves.source (l.loses.stays ∙ l.moves.target) (lost-operated t.operation _ _ l.channel l.message l.sends (lost-same t y z l)))
+
+  -- One move more is one word more.
+  one-more : (x y z : Config) {n : ℕ} → (ws : List ℕ) × (length ws ≡ n) × Plays S ws x y → (w : ℕ) × Plays S (w ∷ []) y z → (ws : List ℕ) × (length ws ≡ suc n) × Plays S ws x z
+  one-more x y z p w = (p.0 ++ (w.0 ∷ []), omega (arith, p.1, length-append p.0 (w.0 ∷ [])), plays-then S p.0 (w.0 ∷ []) x y z p.2 w.1)
 
   -- WORDS: every run whose losses happen only at sends is run words, as many as it has moves.
   pub run-words : {x y : Config} {n : ℕ} → SendRun S x n y → (ws : List ℕ) × (length ws ≡ n) × Plays S ws x y
   run-words {x} runs.stay = ([], refl, plays-none S x)
-  run-words {x} (runs.moves {y = y} {z = z} r t h m) =
-      let p = run-words r in
-      let w = plain_word t y z h m in
-      let e = p.1 in
-      (p.0 ++ (w.0 ∷ []), omega (arith, length-append p.0 (w.0 ∷ [])), plays-then S p.0 (w.0 ∷ []) x y z p.2 w.1)
-  run-words {x} (runs.loses {y = y} {z = z} r t h l) =
-      let p = run-words r in
-      let w = lost-word t y z h l in
-      let e = p.1 in
-      (p.0 ++ (w.0 ∷ []), omega (arith, length-append p.0 (w.0 ∷ [])), plays-then S p.0 (w.0 ∷ []) x y z p.2 w.1)
+  run-words (runs.moves r t h m) = one-more _ _ _ (run-words r) (plain_word t _ _ h m)
+  run-words (runs.loses r t h l) = one-more _ _ _ (run-words r) (lost-word t _ _ h l)
 
 -- Such runs are runs of the system.
 pub send-run : {S : System} {x y : Config} {n : ℕ} → SendRun S x n y → Run S x y

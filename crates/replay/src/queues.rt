@@ -7,12 +7,13 @@ ghost use Rattle.replay.specs.Queues.{Queues, can_lose, Done};
 use table::Operation;
 
 // 2,048 places for each of 4 channels, which no run fills, and the ends of what waits there: the heads stand in the first four places of the
-// ends, the tails in the next four, as the shared definition of the channels' contents reads them. The rebuilt run has a struct of the same two parts: that is all they
-// share, since its channels are filled from their last place and have other methods.
+// ends, the tails in the next four, as the shared definition of the channels' contents reads them. The rebuilt run has a struct of the same two parts, which
+// are all that they share: there the channels are filled from their last place, and its methods are other ones.
+// That each channel has had at most 2,047 messages stays a clause: the number grows with each word played, so that a type would need the step's number.
 #[derive(Drop)]
 pub struct Memory {
-    store: [u8; 8192],
-    ends: [usize; 8],
+    pub store: [u8; 8192],
+    pub ends: [usize; 8],
 }
 
 // Whether an operation's message can be marked lost: only a send's.

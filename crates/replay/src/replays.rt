@@ -7,7 +7,7 @@ ghost use Rattle.replay.specs.declared.replays.Refused.TheVariants.{Table};
 
 use crate::queues::Memory;
 use crate::turns::play_word;
-use table::{Refusal, Table};
+use table::{Refusal, Table, Told};
 
 // How a run ends: stuck at a step, elsewhere in a state, or in a bad state after so many steps.
 #[derive(Clone, Copy, Debug, PartialEq, Eq)]
@@ -29,6 +29,26 @@ impl From<Refusal> for Refused {
 
     fn from(refusal: Refusal) -> Refused {
         Refused::Table(refusal)
+    }
+}
+
+// The run is input 2.
+impl From<Refused> for Told {
+    ghost use Rattle.std.specs.Prelude.{Err};
+    ghost use Rattle.table.specs.Answers.{refusal_told};
+    ghost use Rattle.replay.specs.Replaying as replay;
+
+    ghost from_gives = { λ refused told. replay.answer_of (Err refused) ≡ replay.refused (refusal_told told) };
+
+    fn from(refused: Refused) -> Told {
+        match refused {
+            Refused::Table(refusal) => Told::from(refusal),
+            Refused::TooLong => Told {
+                number: 6,
+                input: 2,
+                place: 0,
+            },
+        }
     }
 }
 

@@ -1,5 +1,5 @@
 // What is said of a table's bytes and a text's. The output stays a slice of at least 80 bytes: docs/CONTRACTS.md names write_answer, and an array would ask
-// more of its callers. Refusals are written as numbers, as every caller sees them.
+// more of its callers.
 ghost use Rattle.std.specs.Prelude.{◌≡◌, ◌≤◌, length, Ok};
 ghost use Rattle.replay.specs.Replaying.{answer_of};
 ghost use Rattle.table.specs.Checking.{check_table};
@@ -9,11 +9,11 @@ ghost use Rattle.replayer.specs.Output.{line_of, no_run_text, told_text, output_
 
 use replay::{Ending, Refused, replay};
 use steps::{NoRun, read_run};
-use table::check_table;
+use table::{Told, check_table};
 use wording::Line;
-use wording::lines::input_fault_line;
 
 // Writes the line of how a run ends.
+#[tactic(auto, using(crate::proofs::OutputLaws::rooms))]
 fn write_ending(ending: Ending, out: &mut [u8]) -> usize
     requires { 80 ≤ length out.old }
     ensures { Written out.old 0 (line_of (answer_of (Ok ending))) out.new result }
@@ -26,29 +26,25 @@ fn write_ending(ending: Ending, out: &mut [u8]) -> usize
 }
 
 // Writes the line of the replay's answer.
+#[tactic(auto, using(crate::proofs::OutputLaws::rooms))]
 fn write_line(answer: Result<Ending, Refused>, out: &mut [u8]) -> usize
     requires { 80 ≤ length out.old }
     ensures { Written out.old 0 (line_of (answer_of answer)) out.new result }
 {
     match answer {
         Ok(ending) => write_ending(ending, out),
-        Err(Refused::Table(refusal)) => input_fault_line(out, 0, refusal, 0),
-        Err(Refused::TooLong) => Line::InputRefused {
-            number: 6,
-            input: 2,
-            place: 0,
-        }
-        .write(out, 0),
+        Err(refused) => Line::from(Told::from(refused)).write(out, 0),
     }
 }
 
 // Writes what is said where the text is no run.
+#[tactic(auto, using(crate::proofs::OutputLaws::rooms))]
 fn write_no_run(table: &[u8], line: usize, out: &mut [u8]) -> usize
     requires { 80 ≤ length out.old }
     ensures { Written out.old 0 (no_run_text (check_table table.now) line) out.new result }
 {
     match check_table(table) {
-        Err(refusal) => input_fault_line(out, 0, refusal, 0),
+        Err(refusal) => Line::from(Told::from(refusal)).write(out, 0),
         Ok(_) => Line::NoRun(line).write(out, 0),
     }
 }
@@ -65,6 +61,7 @@ fn write_told(table: &[u8], text: &[u8], words: &mut [u16], out: &mut [u8]) -> u
 }
 
 // Writes the whole output for the bytes of a table and a text, and answers how many bytes that is.
+#[tactic(auto, using(common::proofs::ChoiceLaws::choices), unfolding(crate::specs::Output::output_of))]
 pub fn write_answer(table: &[u8], text: &[u8], words: &mut [u16], out: &mut [u8]) -> usize
     requires { (28732 ≤ length words.old) × (80 ≤ length out.old) }
     ensures { Written out.old 0 (output_of table.now text.now) out.new result }

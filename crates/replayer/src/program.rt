@@ -1,8 +1,8 @@
-// From inputs to output. What is said of the inputs is decided and written by `write_answer` alone.
+// From inputs to output. What is said of the inputs is decided and written by `write_answer` alone. The output is a slice as there.
 ghost use Rattle.std.specs.Prelude.{◌≤◌, length};
 
 use crate::answers::write_answer;
-use files::{read_named, read_standard, write_output};
+use files::{Argument, read_standard, write_output};
 use std::env::Env;
 use std::io;
 use std::io::Read;
@@ -21,14 +21,14 @@ fn try_replay<R: Env + Files + Print, E: Print, I: Read>(
 ) -> io::Result<()>
     requires { (28732 ≤ length words.old) × (80 ≤ length out.old) }
 {
-    let n = read_named(rt, errors, 1, b"table", table)?;
+    let n = Argument::new(rt, errors, 1, b"table").read(table)?;
     let m = read_standard(reader, errors, text)?;
     let size = write_answer(&table[..n], &text[..m], words, out);
     write_output(rt, errors, &out[..size]);
     Ok(())
 }
 
-// The same; what failed is said by then, and the status says no more.
+// The same as a call that cannot fail, as it could not before its parts could: what failed is said by then, and the status says no more.
 pub fn replay_input<R: Env + Files + Print, E: Print, I: Read>(
     rt: &R,
     errors: &E,

@@ -3,5 +3,5 @@ pub mod CoverLaws
 pub mod OutcomeLaws
 pub mod RowOfLaws
 pub mod NormalLaws
-pub mod SentLaws
 pub mod LookLaws
+pub mod ChangeLaws

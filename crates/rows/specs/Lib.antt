@@ -2,3 +2,4 @@
 pub mod Rows
 pub mod Outcomes
 pub mod Look
+pub mod Changes

@@ -1,5 +1,6 @@
 // What a move that is possible makes of a row: one channel has a new product of so many atoms. A quiet move changes none: channel 4, no atoms. That is
-// no Option, since the look and the new row would take one too, and compare each channel with it: a channel that no row has needs no test of its own.
+// no Option: the definition outcome_row puts a product at a channel, which at channel 4 changes nothing, so that look, new row and laws have one case.
+// The count stands beside the buffer: outcome_into promises what the buffer holds afterwards, and a slice lent from it in its place would end that promise.
 #[derive(Clone, Copy, Debug, PartialEq, Eq)]
 pub struct Changed {
     pub channel: usize,

@@ -28,7 +28,8 @@ pub trait Rows {
 }
 
 // An outcome: in the target state, with the products of a row, but at one channel the product that is given. A channel that the rows do not have
-// says that none is changed.
+// says that none is changed. The product is no type of at most 24 atoms: it can have 25, until the search has tested it. That the source row is one of the
+// rows is a clause of those that take both: an outcome does not hold the rows.
 #[derive(Clone, Copy)]
 pub struct Outcome<'a> {
     pub target: usize,
@@ -49,8 +50,8 @@ fn channel_contained<R: Rows>(rows: &R, r: usize, c: usize, outcome: &Outcome) -
     contained(rows.product(outcome.source_row, c), there)
 }
 
-// One of the rows contains the outcome, by the first `channels` channels: the first that does ends the look.
-// Not inlined, so that its loops keep in registers what they read.
+// One of the rows contains the outcome, by the first `channels` channels: the first that does ends the look. Labelled loops: docs/DECISIONS.md (Forms) has
+// this place for them. Not inlined, so that its loops keep in registers what they read.
 #[inline(never)]
 pub fn is_covered<R: Rows>(rows: &R, channels: usize, outcome: &Outcome) -> bool
     requires { (outcome.now.source_row < R.count rows.now) × (channels ≤ R.channels rows.now) }

@@ -1,5 +1,6 @@
 -- The laws of the search.
 pub mod StandingLaws
+pub mod FrontLaws
 pub mod VisitLaws
 pub mod PassLaws
 pub mod RunLaws

@@ -9,15 +9,16 @@ use Rattle.table.specs.Systems.{GoodTable, system_of}
 use Rattle.table.specs.Transitions.{transition_at}
 use Rattle.table.specs.declared.checks.Shape.{Shape}
 use Rattle.table.proofs.SystemLaws.{moves-length}
+use Rattle.work.specs.Room.{room_of}
 use Rattle.explore.specs.Search.{Entry, safe, Visit, on, stop, tests, Pass, through, ended, pass, Found, walk}
 use Rattle.findings.specs.Search.{frame_of, outcome_at}
 use Rattle.outcome.specs.Look.{row_at}
-use Rattle.search.specs.Standing.{entries, Standing, Grown}
+use Rattle.search.specs.Standing.{entries, Grown}
 use Rattle.search.specs.Visits.{Tests, goes, stops, Passes, all, cut, Walks, whole, short}
 use Rattle.search.specs.declared.visits.Stop.{Stop}
 use Rattle.search.specs.declared.passes.Ended.{Ended}
 use Rattle.search.proofs.VisitLaws.{visit-elsewhere}
-use Rattle.search.proofs.StandingLaws.{entries-count, entry-there, grown-none, grown-there, grown-row, grown-then}
+use Rattle.search.proofs.StandingLaws.{entries-count, entry-there, grown-there, grown-row, grown-then}
 
 -- The pass and the walk end there.
 abbrev ended_at : Stop → ℕ → ℕ → ℕ → Ended
@@ -30,9 +31,6 @@ module _ (S : System) (room : ℕ) (w : List ℕ) (rows : ℕ) where
     pub below : j ≤ length S.moves
     pub grown : Grown S room w rows v n
     pub same : pass (frame_of S) room (length S.moves) (entries S w rows) (row_at w i) i 0 ≡ pass (frame_of S) room (length S.moves - j) (entries S v n) (row_at w i) i j
-
-  pub passing-starts : (i : ℕ) → Standing S room w rows → Passing i w rows 0
-  passing-starts i st = record { below = omega arith; grown = grown-none S room w rows st; same = let z : length S.moves - 0 ≡ length S.moves = omega arith in rw z }
 
   module _ (i : ℕ) (v : List ℕ) (n j : ℕ) (k : Passing i v n j) (h : i < rows) where
     -- One move.
@@ -59,15 +57,9 @@ module _ (S : System) (room : ℕ) (w : List ℕ) (rows : ℕ) where
         }
     led x u m (stops e) = cut (turn m ∙ ap (λ (x : Visit (frame_of S)). elim x as (λ y. Pass (frame_of S)) [ on m ↦ pass (frame_of S) room (length S.moves - (j + 1)) m (row_at w i) i (j + 1) | stop y ↦ ended y (entries S v n) ]) e) k.grown
 
-    pub passing-on : (x : Result ℕ Stop) (r : ℕ) (u : List ℕ) → x ≡ Ok r → j < length S.moves → Tests S room v n i j (outcome_at S (row_at v i) j) x u → Passing i u r (j + 1)
-    passing-on x r u z m d = subst (λ (y : Result ℕ Stop). Led y u) z (led x u m d)
-
-    pub passing-cut : (x : Result ℕ Stop) (y : Stop) (u : List ℕ) → x ≡ Err y → j < length S.moves → Tests S room v n i j (outcome_at S (row_at v i) j) x u → Passes S room w rows i (Err (ended_at y n i j)) u
-    passing-cut x y u z m d = subst (λ (y : Result ℕ Stop). Led y u) z (led x u m d)
-
-    pub passing-ends : length S.moves ≤ j → Passes S room w rows i (Ok n) v
+    ended_pass : length S.moves ≤ j → Passes S room w rows i (Ok n) v
     unfolding pass
-    passing-ends m = let z : length S.moves - j ≡ 0 = omega arith in all (k.same ∙ ap (λ (x : ℕ). pass (frame_of S) room x (entries S v n) (row_at w i) i j) z) k.grown
+    ended_pass m = let z : length S.moves - j ≡ 0 = omega arith in all (k.same ∙ ap (λ (x : ℕ). pass (frame_of S) room x (entries S v n) (row_at w i) i j) z) k.grown
 
   -- ---- the rows: before row i the words are v, with n rows
 
@@ -75,9 +67,6 @@ module _ (S : System) (room : ℕ) (w : List ℕ) (rows : ℕ) where
     pub below : i ≤ n
     pub grown : Grown S room w rows v n
     pub same : walk (frame_of S) room room (entries S w rows) 0 ≡ walk (frame_of S) room (room - i) (entries S v n) i
-
-  pub walking-starts : Standing S room w rows → Walking w rows 0
-  walking-starts st = record { below = omega arith; grown = grown-none S room w rows st; same = let z : room - 0 ≡ room = omega arith in rw z }
 
   module _ (v : List ℕ) (n i : ℕ) (k : Walking v n i) where
     few : n ≤ room
@@ -107,11 +96,16 @@ module _ (S : System) (room : ℕ) (w : List ℕ) (rows : ℕ) where
         }
     gone x u h (cut {n = r} e g) = short (row h ∙ ap (λ (x : Pass (frame_of S)). elim x as (λ y. Found (frame_of S)) [ through m ↦ walk (frame_of S) room (room - (i + 1)) m (i + 1) | ended y m ↦ record { verdict = y; rows = m } ]) e) (grown-then S room w v u rows n r k.grown g)
 
-    pub walking_on : (x : Result ℕ Ended) (r : ℕ) (u : List ℕ) → x ≡ Ok r → i < n → Passes S room v n i x u → Walking u r (i + 1)
-    walking_on x r u z h d = subst (λ (y : Result ℕ Ended). Gone y u) z (gone x u h d)
+    -- The pass had the room of the words v, which are as many.
+    module _ (h : i < n) (x : Result ℕ Ended) (u : List ℕ) (d : Passes S (room_of (length v)) v n i x u) (z : room_of (length v) ≡ room) where
+      gone_by : Gone x u
+      gone_by = gone x u h (subst (λ (m : ℕ). Passes S m v n i x u) z d)
 
-    pub walking-cut : (x : Result ℕ Ended) (e : Ended) (u : List ℕ) → x ≡ Err e → i < n → Passes S room v n i x u → Walks S room w rows (Err e) u
-    walking-cut x e u z h d = subst (λ (y : Result ℕ Ended). Gone y u) z (gone x u h d)
+      pub walking_on : (r : ℕ) → x ≡ Ok r → Walking u r (i + 1)
+      walking_on r e = subst (λ (y : Result ℕ Ended). Gone y u) e gone_by
+
+      pub walking-cut : (end : Ended) → x ≡ Err end → Walks S room w rows (Err end) u
+      walking-cut end e = subst (λ (y : Result ℕ Ended). Gone y u) e gone_by
 
     none-there : n ≤ i → get_elem? (entries S v n) i ≡ none
     none-there h = past-at (entries S v n) i (omega (arith, entries-count S v n))
@@ -125,12 +119,30 @@ module _ (S : System) (room : ℕ) (w : List ℕ) (rows : ℕ) where
     pub walking-ends : n ≤ i → Walks S room w rows (Ok n) v
     walking-ends h = whole (k.same ∙ last h (room - i)) k.grown
 
--- ---- a transition that comes from another state than that of row i is passed by: nothing would come of its visit
+-- ---- the moves of row i, which are the table's transitions
 
-module _ (t : List ℕ) (s : Shape) (g : GoodTable t s) (room : ℕ) (w : List ℕ) (rows i : ℕ) (v : List ℕ) (n j : ℕ) (k : Passing (system_of t) room w rows i v n j) (h : i < rows)
-    (m : j < s.transitions) where
-  pub passing-by : (state source : ℕ) → state ≡ get_or w (103 * i) 0 → source ≡ (transition_at t j).source → (source ≡ state → ⊥) → Passing (system_of t) room w rows i v n (j + 1)
-  passing-by state source a b c =
-      passing-on (system_of t) room w rows i v n j k h (Ok n) n v refl (omega (arith, moves-length t s g))
-      (visit-elsewhere t s g room v n k.grown.standing i j (grown-there (system_of t) room w v rows n k.grown i h) m (transition_at t j) refl
-      (λ e. c (b ∙ sym e ∙ ap (λ (r : Row). r.state) (grown-row (system_of t) room w v rows n k.grown i h) ∙ sym a)))
+module _ (t : List ℕ) (s : Shape) (g : GoodTable t s) (room : ℕ) (w : List ℕ) (rows i : ℕ) (v : List ℕ) (n j : ℕ) (k : Passing (system_of t) room w rows i v n j) (h : i < rows) where
+  pub passing-ends : s.transitions ≤ j → Passes (system_of t) room w rows i (Ok n) v
+  passing-ends m = ended_pass (system_of t) room w rows i v n j k h (omega (arith, moves-length t s g))
+
+  module _ (m : j < s.transitions) where
+    abbrev Visited : Result ℕ Stop → List ℕ → ℕ → Type 0
+    Visited x u places = Tests (system_of t) places v n i j (outcome_at (system_of t) (row_at v i) j) x u
+
+    -- The visit had the room of the words v, which are as many.
+    module _ (x : Result ℕ Stop) (u : List ℕ) (d : Visited x u (room_of (length v))) (z : room_of (length v) ≡ room) where
+      leads : Led (system_of t) room w rows i v n j k h x u
+      leads = led (system_of t) room w rows i v n j k h x u (omega (arith, moves-length t s g)) (subst (Visited x u) z d)
+
+      pub passing-on : (r : ℕ) → x ≡ Ok r → Passing (system_of t) room w rows i u r (j + 1)
+      passing-on r e = subst (λ (y : Result ℕ Stop). Led (system_of t) room w rows i v n j k h y u) e leads
+
+      pub passing-cut : (y : Stop) → x ≡ Err y → Passes (system_of t) room w rows i (Err (ended_at y n i j)) u
+      passing-cut y e = subst (λ (y : Result ℕ Stop). Led (system_of t) room w rows i v n j k h y u) e leads
+
+    -- A transition that comes from another state than that of row i is passed by: nothing would come of its visit.
+    pub passing-by : (state source : ℕ) → state ≡ get_or w (103 * i) 0 → source ≡ (transition_at t j).source → (source ≡ state → ⊥) → Passing (system_of t) room w rows i v n (j + 1)
+    passing-by state source a b c =
+        led (system_of t) room w rows i v n j k h (Ok n) v (omega (arith, moves-length t s g))
+        (visit-elsewhere t s g room v n k.grown.standing i j (grown-there (system_of t) room w v rows n k.grown i h) m (transition_at t j) refl
+        (λ e. c (b ∙ sym e ∙ ap (λ (r : Row). r.state) (grown-row (system_of t) room w v rows n k.grown i h) ∙ sym a)))

@@ -1,5 +1,6 @@
 -- The run, rebuilt from its end: the model from here on is the model from the start.
 use Rattle.std.proofs.Common.{◌≡◌, refl, sym, ap, ◌∙◌, true, false, ◌⊎◌, inl, inr, List, [], ◌++◌, append-nil, ℕ, zero, suc, ◌+◌, ◌-◌, ◌*◌, ◌<◌, ◌≤◌, arith, ltb, length, drop, get_or, length-append, ltb-true, ltb-false}
+pub use Rattle.std.proofs.Common.{length-take-le}
 use Rattle.std.proofs.Math.Path.{fun_ext}
 use Rattle.std.proofs.Math.Option.{Option, none, some}
 use Rattle.common.specs.Front.{front}
@@ -7,20 +8,21 @@ use Rattle.common.proofs.BoolLaws.{either}
 use Rattle.common.proofs.ChoiceLaws.{eq-then, eq-else}
 use Rattle.common.proofs.PartLaws.{part_none, part_length}
 use Rattle.meaning.specs.Systems.{System, Contents}
-use Rattle.table.specs.Systems.{GoodTable, system_of}
-use Rattle.table.specs.declared.checks.Shape.{Shape}
 use Rattle.table.proofs.SystemLaws.{moves-length, well-made}
 use Rattle.channels.proofs.ContentsLaws.{contents-at, contents-past}
+use Rattle.work.specs.Room.{room_of}
+use Rattle.work.proofs.RoomLaws.{room-few}
 use Rattle.explore.specs.Search.{Entry}
-use Rattle.explore.specs.Found.{Linked}
 use Rattle.findings.specs.Search.{frame_of}
-use Rattle.findings.specs.Rebuild.{Back, back_over, rebuilt, run_of}
+use Rattle.findings.specs.Rebuild.{Back, back_over, rebuilt}
 use Rattle.findings.proofs.LengthLaws.{size, size_none, over-small}
+use Rattle.back.specs.declared.moves.Rebuilding.{Rebuilding}
 use Rattle.back.specs.declared.needs.Needs.{Needs}
 use Rattle.back.specs.declared.tails.Tail.{Tail}
 use Rattle.back.specs.Needs.{needed, Needed, standing, Went}
 use Rattle.back.proofs.MoveLaws.{needed-more}
-use Rattle.search.specs.Standing.{entry_at, entries, Standing}
+use Rattle.search.specs.Runs.{system_at, rows_at, run_to}
+use Rattle.search.specs.declared.runs.LastVisit.{LastVisit}
 use Rattle.search.proofs.StandingLaws.{entry-there}
 
 -- ---- nothing is needed at first
@@ -36,128 +38,137 @@ needed-empty q k = fun_ext (λ c. go c (either (ltb c 4)))
         contents-at q.store q.ends c l ∙ part_none _ _ q.store (omega arith)
     go c (inr h) = contents-past q.store q.ends c (ltb-false c 4 h)
 
-standing-length : (v : Tail) → length (standing v) ≡ 2048 - v.at
+pub standing-length : (v : Tail) → length (standing v) ≡ 2048 - v.at
 standing-length v = part_length v.at 2048 v.words (omega (arith, v.full))
 
--- ---- from row i back to row 0
+-- How long the words that stand are, and a part of the run buffer that is as long.
+pub ruleset run_lengths = (standing-length, length-take-le)
 
-module _ (t : List ℕ) (room : ℕ) (w : List ℕ) (rows i : ℕ) (f : Contents) (ws : List ℕ) where
+-- ---- from the row of the last visit back to row 0
+
+module _ (x : LastVisit) where
   abbrev S : System
-  S = system_of t
+  S = system_at x
 
-  -- Before row n, where q is needed and the words stand in v.
-  pub record Backing (q : Needs) (v : Tail) (n : ℕ) : Type 0 where
+  abbrev l : List (Entry (frame_of S))
+  l = rows_at x
+
+  -- Before row n the run of a is rebuilt as far as r.
+  pub record Backing (a r : Rebuilding) (n : ℕ) : Type 0 where
     pub fuel : ℕ
     pub enough : n ≤ fuel
-    pub few : fuel ≤ i
-    pub few_needed : Needed (1 + (i - fuel)) q
-    pub room_left : 2048 + size S.channels (needed q) + 2 * n ≤ v.at + 2 * room
-    pub same : rebuilt S i (entries S w rows) i f ws ≡ rebuilt S fuel (entries S w rows) n (needed q) (standing v)
+    pub few : fuel ≤ x.end.row
+    pub few_needed : Needed (1 + (x.end.row - fuel)) r.needs
+    pub room_left : 2048 + size S.channels (needed r.needs) + 2 * n ≤ r.run.at + 2 * room_of (length x.words.now)
+    pub same : rebuilt S x.end.row l x.end.row (needed a.needs) (standing a.run) ≡ rebuilt S fuel l n (needed r.needs) (standing r.run)
 
--- Row n, by the laws of rows that stand.
-module _ (t : List ℕ) (h : Shape) (g : GoodTable t h) (room : ℕ) (w : List ℕ) (rows : ℕ) (st : Standing (system_of t) room w rows) (i : ℕ) (f : Contents) (ws : List ℕ) where
-  module _ (s : Needs) (v : Tail) (n : ℕ) (k : Backing t room w rows i f ws s v n) (b : n < rows) (z : 0 < n) (j : ℕ) (moved : j ≡ get_or w (103 * n + 2) 0) where
-    link : Linked (frame_of (system_of t)) (entries (system_of t) w rows) n (entry_at (system_of t) w n)
-    link = st.made.linked n (entry_at (system_of t) w n) z (entry-there (system_of t) w rows n b)
+  -- What a turn asks of move j.
+  pub record Turn (r : Rebuilding) (j : ℕ) : Type 0 where
+    pub move : j < x.table.now.shape.transitions
+    pub few_needed : Needed 2047 r.needs
+    pub room : length (back_over S j (needed r.needs)).words ≤ r.run.at
 
-    pub backing-move : j < h.transitions
-    backing-move = omega (arith, moved, link.move, moves-length t h g)
+  module _ (a r : Rebuilding) (n : ℕ) (k : Backing a r n) where
+    there : n < x.end.rows
+    there = omega (arith, k.enough, k.few, x.there.0)
 
-    abbrev over : Back
-    over = back_over (system_of t) j (needed s)
+    module _ (z : 0 < n) where
+      earlier : (m : ℕ) → m ≡ get_or x.words.now (103 * n + 1) 0 → m < n
+      earlier m y = omega (arith, y, x.leads_back.earlier n z there)
 
-    small : length over.words + size (system_of t).channels over.before ≤ size (system_of t).channels (needed s) + 2
-    small = over-small (system_of t) (well-made t h g) j (needed s)
+      module _ (j : ℕ) (moved : j ≡ get_or x.words.now (103 * n + 2) 0) where
+        abbrev over : Back
+        over = back_over S j (needed r.needs)
 
-    pub backing-room : room ≤ 1024 → length over.words ≤ v.at
-    backing-room r = omega (arith, small, k.room_left)
+        small : length over.words + size S.channels over.before ≤ size S.channels (needed r.needs) + 2
+        small = over-small S (well-made x.table.now.bytes.now x.table.now.shape x.table.now.good) j (needed r.needs)
 
-    module _ (s' : Needs) (v' : Tail) (m : ℕ) (y : m ≡ get_or w (103 * n + 1) 0) (q : Went over s v s' v') where
-      -- As many places are left as the words leave.
-      places : v'.at + length over.words ≡ v.at
-      places =
-          let a : length (standing v') ≡ length (over.words ++ standing v) = ap length q.words in
-          omega (arith, length-append over.words (standing v), standing-length v, standing-length v', q.place, v.within)
+        pub turn : Turn r j
+        turn =
+            let u = room-few (length x.words.now) in
+            let d = x.leads_back.few in
+            let e = there in
+            record {
+              move = omega (arith, moved, x.leads_back.moves n z there, moves-length x.table.now.bytes.now x.table.now.shape x.table.now.good);
+              few_needed = needed-more (1 + (x.end.row - k.fuel)) 2047 r.needs k.few_needed (omega arith);
+              room = omega (arith, small, k.room_left);
+            }
 
-      turn : rebuilt (system_of t) k.fuel (entries (system_of t) w rows) n (needed s) (standing v) ≡ rebuilt (system_of t) (k.fuel - 1) (entries (system_of t) w rows) m (needed s') (standing v')
-      unfolding rebuilt
-      turn =
-          let a : k.fuel ≡ suc (k.fuel - 1) = omega (arith, k.enough) in
-          ap (λ (x : ℕ). rebuilt (system_of t) x (entries (system_of t) w rows) n (needed s) (standing v)) a
-          ∙ sym (eq-else _ _ _ _ (λ x. omega arith) refl)
-          ∙ ap (λ (x : Option (Entry (frame_of (system_of t)))). elim x as (λ d. List ℕ) [ none ↦ standing v | some d ↦ rebuilt (system_of t) (k.fuel - 1) (entries (system_of t) w rows) d.parent (back_over (system_of t) d.move (needed s)).before ((back_over (system_of t) d.move (needed s)).words ++ standing v) ])
-          (entry-there (system_of t) w rows n b)
-          ∙ ap (λ (x : ℕ). rebuilt (system_of t) (k.fuel - 1) (entries (system_of t) w rows) (get_or w (103 * n + 1) 0) (back_over (system_of t) x (needed s)).before ((back_over (system_of t) x (needed s)).words ++ standing v)) (sym moved)
-          ∙ ap (λ (x : ℕ). rebuilt (system_of t) (k.fuel - 1) (entries (system_of t) w rows) x over.before (over.words ++ standing v)) (sym y)
-          ∙ ap (λ (x : Contents). rebuilt (system_of t) (k.fuel - 1) (entries (system_of t) w rows) m x (over.words ++ standing v)) (sym q.before)
-          ∙ ap (rebuilt (system_of t) (k.fuel - 1) (entries (system_of t) w rows) m (needed s')) (sym q.words)
+        module _ (r' : Rebuilding) (m : ℕ) (y : m ≡ get_or x.words.now (103 * n + 1) 0) (d : Went over r r') where
+          -- As many places are left as the words leave.
+          places : r'.run.at + length over.words ≡ r.run.at
+          places =
+              let b : length (standing r'.run) ≡ length (over.words ++ standing r.run) = ap length d.words in
+              omega (arith, length-append over.words (standing r.run), standing-length r.run, standing-length r'.run, d.place, r.run.within)
 
-      pub backing-on : Backing t room w rows i f ws s' v' m
-      backing-on =
-          let x = k.enough in
-          let c = k.few in
-          record {
-            fuel = k.fuel - 1;
-            enough = omega (arith, link.earlier);
-            few = omega arith;
-            few_needed = needed-more (1 + (i - k.fuel) + 1) (1 + (i - (k.fuel - 1))) s' (q.keeps (1 + (i - k.fuel)) k.few_needed) (omega arith);
-            room_left = omega (arith, small, places, k.room_left, link.earlier, ap (size (system_of t).channels) q.before);
-            same = k.same ∙ turn;
-          }
+          -- One move more is rebuilt.
+          gone_back : rebuilt S k.fuel l n (needed r.needs) (standing r.run) ≡ rebuilt S (k.fuel - 1) l m (needed r'.needs) (standing r'.run)
+          unfolding rebuilt
+          gone_back =
+              let b : k.fuel ≡ suc (k.fuel - 1) = omega (arith, k.enough) in
+              ap (λ (i : ℕ). rebuilt S i l n (needed r.needs) (standing r.run)) b
+              ∙ sym (eq-else _ _ _ _ (λ i. omega arith) refl)
+              ∙ ap (λ (e : Option (Entry (frame_of S))). elim e as (λ d. List ℕ) [ none ↦ standing r.run | some d ↦ rebuilt S (k.fuel - 1) l d.parent (back_over S d.move (needed r.needs)).before ((back_over S d.move (needed r.needs)).words ++ standing r.run) ])
+              (entry-there S x.words.now x.end.rows n there)
+              ∙ ap (λ (i : ℕ). rebuilt S (k.fuel - 1) l (get_or x.words.now (103 * n + 1) 0) (back_over S i (needed r.needs)).before ((back_over S i (needed r.needs)).words ++ standing r.run)) (sym moved)
+              ∙ ap (λ (i : ℕ). rebuilt S (k.fuel - 1) l i over.before (over.words ++ standing r.run)) (sym y)
+              ∙ ap (λ (f : Contents). rebuilt S (k.fuel - 1) l m f (over.words ++ standing r.run)) (sym d.before)
+              ∙ ap (rebuilt S (k.fuel - 1) l m (needed r'.needs)) (sym d.words)
 
--- Row 0: nothing is left to go back over.
-pub backing-ends : (t : List ℕ) (room : ℕ) (w : List ℕ) (rows i : ℕ) (f : Contents) (ws : List ℕ) (q : Needs) (v : Tail) (n : ℕ) → Backing t room w rows i f ws q v n → n ≤ 0 → standing v ≡ rebuilt (system_of t) i (entries (system_of t) w rows) i f ws
-unfolding rebuilt
-backing-ends t room w rows i f ws q v n k z = sym (k.same ∙ go k.fuel)
-  where
-    go : (x : ℕ) → rebuilt (system_of t) x (entries (system_of t) w rows) n (needed q) (standing v) ≡ standing v
-    go zero = refl
-    go (suc x) = sym (eq-then _ _ _ _ (omega arith) refl)
+          pub backing-on : Backing a r' m
+          backing-on =
+              let b = k.enough in
+              let c = k.few in
+              let e = earlier m y in
+              record {
+                fuel = k.fuel - 1;
+                enough = omega arith;
+                few = omega arith;
+                few_needed = needed-more (1 + (x.end.row - k.fuel) + 1) (1 + (x.end.row - (k.fuel - 1))) r'.needs (d.keeps (1 + (x.end.row - k.fuel)) k.few_needed) (omega arith);
+                room_left = omega (arith, small, places, k.room_left, ap (size S.channels) d.before);
+                same = k.same ∙ gone_back;
+              }
 
-pub backing-starts : (t : List ℕ) (room : ℕ) (w : List ℕ) (rows i : ℕ) (q : Needs) (v : Tail) → Needed 1 q
-    → 2048 + size (system_of t).channels (needed q) + 2 * i ≤ v.at + 2 * room → Backing t room w rows i (needed q) (standing v) q v i
-backing-starts t room w rows i q v k r =
-    let z : i - i ≡ 0 = omega arith in
-    record { fuel = i; enough = omega arith; few = omega arith; few_needed = rw z k; room_left = r; same = refl }
+    -- Row 0: nothing is left to go back over.
+    pub backing-ends : n ≤ 0 → standing r.run ≡ rebuilt S x.end.row l x.end.row (needed a.needs) (standing a.run)
+    unfolding rebuilt
+    backing-ends z = sym (k.same ∙ go k.fuel)
+      where
+        go : (i : ℕ) → rebuilt S i l n (needed r.needs) (standing r.run) ≡ standing r.run
+        go zero = refl
+        go (suc i) = sym (eq-then _ _ _ _ (omega arith) refl)
 
--- A row's parent comes before it.
-pub parent-before : (S : System) (room : ℕ) (w : List ℕ) (rows n m : ℕ) → Standing S room w rows → m ≡ get_or w (103 * n + 1) 0 → n < rows → 0 < n → m < n
-parent-before S room w rows n m st y b z = omega (arith, y, (st.made.linked n (entry_at S w n) z (entry-there S w rows n b)).earlier)
+  -- ---- the last move, before which every channel is empty
 
--- ---- the last move, before which every channel is empty
+  module _ (r : Rebuilding) (k : Needed 0 r.needs) (e : r.run.at ≡ 2048) where
+    abbrev final : Back
+    final = back_over S x.end.transition (needed r.needs)
 
-module _ (t : List ℕ) (h : Shape) (g : GoodTable t h) (j : ℕ) (q : Needs) (k : Needed 0 q) where
-  abbrev final : Back
-  final = back_over (system_of t) j (needed q)
+    -- Its words and what is needed before it are at most two.
+    last-small : length final.words + size S.channels final.before ≤ 2
+    last-small =
+        let a = over-small S (well-made x.table.now.bytes.now x.table.now.shape x.table.now.good) x.end.transition (needed r.needs) in
+        let b : size S.channels (needed r.needs) ≡ 0 = ap (size S.channels) (needed-empty r.needs k) ∙ size_none S.channels in
+        omega arith
 
-  -- Its words and what is needed before it are at most two.
-  last-small : length final.words + size (system_of t).channels final.before ≤ 2
-  last-small =
-      let a = over-small (system_of t) (well-made t h g) j (needed q) in
-      let b : size (system_of t).channels (needed q) ≡ 0 = ap (size (system_of t).channels) (needed-empty q k) ∙ size_none (system_of t).channels in
-      omega arith
+    pub last-room : length final.words ≤ r.run.at
+    last-room = omega (arith, last-small)
 
-  pub last-room : length final.words ≤ 2048
-  last-room = omega (arith, last-small)
+    module _ (r' : Rebuilding) (d : Went final r r') where
+      last-words : standing r'.run ≡ final.words
+      last-words = d.words ∙ ap (final.words ++◌) (part_none r.run.at 2048 r.run.words (omega arith)) ∙ append-nil final.words
 
-  module _ (v : Tail) (q' : Needs) (v' : Tail) (e : v.at ≡ 2048) (r : Went final q v q' v') where
-    last-words : standing v' ≡ final.words
-    last-words = r.words ∙ ap (final.words ++◌) (part_none v.at 2048 v.words (omega arith)) ∙ append-nil final.words
+      pub last-left : 2048 + size S.channels (needed r'.needs) + 2 * x.end.row ≤ r'.run.at + 2 * room_of (length x.words.now)
+      last-left =
+          let a : length (standing r'.run) ≡ length final.words = ap length last-words in
+          omega (arith, standing-length r'.run, last-small, ap (size S.channels) d.before, r'.run.within, x.there.0, x.leads_back.few)
 
-    pub last-left : (i rows room : ℕ) → i < rows → rows ≤ room → 2048 + size (system_of t).channels (needed q') + 2 * i ≤ v'.at + 2 * room
-    last-left i rows room b c =
-        let d : length (standing v') ≡ length final.words = ap length last-words in
-        omega (arith, standing-length v', last-small, ap (size (system_of t).channels) r.before, v'.within)
-
-    pub last-run : (l : List (Entry (frame_of (system_of t)))) (i : ℕ) → rebuilt (system_of t) i l i (needed q') (standing v') ≡ run_of (system_of t) l i j
-    last-run l i =
-        ap (λ (x : Contents). rebuilt (system_of t) i l i x (standing v')) r.before ∙ ap (rebuilt (system_of t) i l i final.before) last-words
-        ∙ ap (λ (x : Contents). rebuilt (system_of t) i l i (back_over (system_of t) j x).before (back_over (system_of t) j x).words) (needed-empty q k)
+      pub last-run : rebuilt S x.end.row l x.end.row (needed r'.needs) (standing r'.run) ≡ run_to x
+      last-run =
+          ap (λ (f : Contents). rebuilt S x.end.row l x.end.row f (standing r'.run)) d.before ∙ ap (rebuilt S x.end.row l x.end.row final.before) last-words
+          ∙ ap (λ (f : Contents). rebuilt S x.end.row l x.end.row (back_over S x.end.transition f).before (back_over S x.end.transition f).words) (needed-empty r.needs k)
 
 -- ---- the run in the run buffer
-
-pub run-fits : (v : Tail) (xs run : List ℕ) (room : ℕ) → xs ≡ standing v → 2048 ≤ v.at + 2 * room → 2 * room ≤ length run → length xs ≤ length run
-run-fits v xs run room e h k = omega (arith, ap length e, standing-length v)
 
 pub run-written : (xs us run ys : List ℕ) → xs ≡ us → ys ≡ xs → ys ++ drop (length xs) run ≡ front us run
 unfolding front

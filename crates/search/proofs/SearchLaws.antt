@@ -15,14 +15,14 @@ use Rattle.table.proofs.SystemLaws.{start_is, bads-are, moves-length, well-made,
 use Rattle.rows.proofs.CoverLaws.{covers_self}
 use Rattle.work.specs.Layout.{Stored, all_words, start_stored}
 use Rattle.work.specs.Room.{room_of}
-use Rattle.work.proofs.RoomLaws.{room_fits, room-few, room-one}
+use Rattle.work.proofs.RoomLaws.{room-one}
 use Rattle.explore.specs.Search.{Entry, Verdict, Found, walk}
 use Rattle.explore.specs.Search as explore
 use Rattle.explore.specs.Found.{Says}
 use Rattle.explore.proofs.WalkLaws.{search-right, rows-first, met-there}
 use Rattle.findings.specs.Search.{frame_of, first_entry}
 use Rattle.findings.specs.Rebuild.{run_of}
-use Rattle.search.specs.Standing.{entries, stored, Standing, Grown}
+use Rattle.search.specs.Standing.{entries, stored, Standing, LeadBack, Grown}
 use Rattle.search.specs.Visits.{verdict_of, Walks, whole, short}
 use Rattle.search.specs.Searching.{Result, Answer, unwritten, concluded, found_by, search_system, search_with, search_of, Leaves, Concluded, Searches}
 use Rattle.search.specs.declared.visits.Stop.{Stop}
@@ -30,66 +30,72 @@ use Rattle.search.specs.declared.visits.Stop.TheVariants as stop
 use Rattle.search.specs.declared.passes.Ended.{Ended}
 use Rattle.search.specs.declared.searches.Verdict.TheVariants as verdict
 use Rattle.search.specs.declared.searches.Refused.TheVariants as refused
-use Rattle.search.proofs.StandingLaws.{entries-count, grown-there, Told, tells, words-length}
+use Rattle.search.proofs.StandingLaws.{entries-count, leads_back, grown-there, Told, tells, words-length}
 
 -- ---- row 0
 
-module _ (t : List ℕ) (s : Shape) (g : GoodTable t s) (room : ℕ) (h : 1 ≤ room) (w v : List ℕ) (a : ℕ) (e : a ≡ s.start) (k : v ≡ front (all_words (start_stored a ∷ [])) w) where
+module _ (t : List ℕ) (s : Shape) (g : GoodTable t s) (w v : List ℕ) (h : 103 ≤ length w) (a : ℕ) (e : a ≡ s.start) (k : v ≡ front (all_words (start_stored a ∷ [])) w) (z : length v ≡ length w) where
   abbrev S : System
   S = system_of t
 
-  first : Told S (well-made t s g) (few-messages t s g) (few-channels t s g) room (first_entry S ∷ []) (rows-first (frame_of S) room (first_entry S) h) w v 1
+  abbrev rows_fit : ℕ
+  rows_fit = room_of (length v)
+
+  one : 1 ≤ rows_fit
+  one = room-one (length v) (omega (arith, z))
+
+  first : Told S (well-made t s g) (few-messages t s g) (few-channels t s g) rows_fit (first_entry S ∷ []) (rows-first (frame_of S) rows_fit (first_entry S) one) w v 1
   first =
-      tells S (well-made t s g) (few-messages t s g) (few-channels t s g) room (first_entry S ∷ []) (rows-first (frame_of S) room (first_entry S) h) w v 1
+      tells S (well-made t s g) (few-messages t s g) (few-channels t s g) rows_fit (first_entry S ∷ []) (rows-first (frame_of S) rows_fit (first_entry S) one) w v 1
       (k ∙ ap (λ (x : ℕ). front (all_words (start_stored x ∷ [])) w) (e ∙ sym (start_is t s g))) refl
 
-  pub start-stands : Standing S room v 1
+  pub start-stands : Standing S rows_fit v 1
   start-stands = first.standing
 
   -- ---- how the walk ends
 
-  abbrev found : Found (frame_of S)
-  found = explore.search (frame_of S) room (first_entry S)
+  abbrev found : ℕ → Found (frame_of S)
+  found n = explore.search (frame_of S) (room_of n) (first_entry S)
 
-  walk_is : walk (frame_of S) room room (entries S v 1) 0 ≡ found
+  walk_is : walk (frame_of S) rows_fit rows_fit (entries S v 1) 0 ≡ found (length v)
   unfolding explore.search
-  walk_is = ap (λ (l : List (Entry (frame_of S))). walk (frame_of S) room room l 0) first.rows
+  walk_is = ap (λ (l : List (Entry (frame_of S))). walk (frame_of S) rows_fit rows_fit l 0) first.rows
 
-  module _ (u : List ℕ) (n : ℕ) (b : Grown S room v 1 u n) where
+  module _ (u : List ℕ) (n : ℕ) (b : Grown S rows_fit v 1 u n) where
     -- The rows stand in the first words, and behind them is what was there.
     laid : u ≡ front (all_words (stored S (entries S u n))) w
     unfolding front
     laid =
-        let z : 103 * 1 + (103 * n - 103 * 1) ≡ 103 * n = omega (arith, grown-there S room v u 1 n b 0 (omega arith)) in
-        let y : length (all_words (stored S (entries S u n))) ≡ 103 * n = words-length S (well-made t s g) (few-messages t s g) (few-channels t s g) room (entries S u n) b.standing.made ∙ ap (λ (x : ℕ). 103 * x) (entries-count S u n) in
+        let x : 103 * 1 + (103 * n - 103 * 1) ≡ 103 * n = omega (arith, grown-there S rows_fit v u 1 n b 0 (omega arith)) in
+        let y : length (all_words (stored S (entries S u n))) ≡ 103 * n = words-length S (well-made t s g) (few-messages t s g) (few-channels t s g) rows_fit (entries S u n) b.standing.made ∙ ap (λ (x : ℕ). 103 * x) (entries-count S u n) in
         b.standing.laid
         ∙ ap (λ (x : List ℕ). all_words (stored S (entries S u n)) ++ x)
         (ap (λ (x : ℕ). drop x u) y ∙ b.behind
-        ∙ subst (λ (m : ℕ). drop m v ≡ drop m w) z (sym (drop-drop (103 * n - 103 * 1) (103 * 1) v) ∙ ap (drop (103 * n - 103 * 1)) first.behind ∙ drop-drop (103 * n - 103 * 1) (103 * 1) w)
+        ∙ subst (λ (m : ℕ). drop m v ≡ drop m w) x (sym (drop-drop (103 * n - 103 * 1) (103 * 1) v) ∙ ap (drop (103 * n - 103 * 1)) first.behind ∙ drop-drop (103 * n - 103 * 1) (103 * 1) w)
         ∙ ap (λ (x : ℕ). drop x w) (sym y))
 
   -- The rows found, and the verdict, are these.
-  module _ (u : List ℕ) (n : ℕ) (y : Verdict) (q : walk (frame_of S) room room (entries S v 1) 0 ≡ record { verdict = y; rows = entries S u n }) where
-    found-is : found ≡ record { verdict = y; rows = entries S u n }
+  module _ (u : List ℕ) (n : ℕ) (y : Verdict) (q : walk (frame_of S) rows_fit rows_fit (entries S v 1) 0 ≡ record { verdict = y; rows = entries S u n }) where
+    found-is : found (length v) ≡ record { verdict = y; rows = entries S u n }
     found-is = sym walk_is ∙ q
 
-    says : Says (frame_of S) room (entries S u n) y
-    says = subst (λ (x : Found (frame_of S)). Says (frame_of S) room x.rows x.verdict) found-is (search-right (frame_of S) (λ r. covers_self S.channels r) room (first_entry S) h).says
+    says : Says (frame_of S) rows_fit (entries S u n) y
+    says = subst (λ (x : Found (frame_of S)). Says (frame_of S) rows_fit x.rows x.verdict) found-is (search-right (frame_of S) (λ r. covers_self S.channels r) rows_fit (first_entry S) one).says
 
-    leaves : Grown S room v 1 u n → (run : List ℕ) (r : Answer) (run' : List ℕ) → r ≡ (concluded S (entries S u n) y).answer → (concluded S (entries S u n) y).rows ≡ stored S (entries S u n)
-        → run' ≡ front (concluded S (entries S u n) y).run run → Leaves (found_by S found) w run r u run'
+    leaves : Grown S rows_fit v 1 u n → (run : List ℕ) (r : Answer) (run' : List ℕ) → r ≡ (concluded S (entries S u n) y).answer → (concluded S (entries S u n) y).rows ≡ stored S (entries S u n)
+        → run' ≡ front (concluded S (entries S u n) y).run run → Leaves (found_by S (found (length w))) w run r u run'
     leaves b run r run' c d f =
-        subst (λ (x : Found (frame_of S)). Leaves (found_by S x) w run r u run') (sym found-is)
+        subst (λ (x : Found (frame_of S)). Leaves (found_by S x) w run r u run') (sym found-is ∙ ap found z)
         (record { answer = c; rows = laid u n b ∙ ap (λ (x : List Stored). front (all_words x) w) (sym d); words = f })
 
   -- Where the walk ended: safe; or at a row's transition that are there, and the rest is to conclude.
   abbrev Finish : std.Result ℕ Ended → List ℕ → Type 0
-  Finish (Ok n) u = (run : List ℕ) → Leaves (found_by S found) w run (Ok (verdict.Safe n)) u run
-  Finish (Err e) u = Standing S room u e.rows × (e.row < e.rows) × (e.transition < s.transitions)
-      × ((run : List ℕ) (r : Answer) (run' : List ℕ) → Concluded S (entries S u e.rows) e.row e.transition e.why run r run' → Leaves (found_by S found) w run r u run')
+  Finish (Ok n) u = (run : List ℕ) → Leaves (found_by S (found (length w))) w run (Ok (verdict.Safe n)) u run
+  Finish (Err e) u = Standing S rows_fit u e.rows × (e.row < e.rows) × (e.transition < s.transitions)
+      × ((run : List ℕ) (r : Answer) (run' : List ℕ) → Concluded S (entries S u e.rows) e.row e.transition e.why run r run' → Leaves (found_by S (found (length w))) w run r u run')
 
   -- The row and the transition that a verdict names are there.
-  named : (l : List (Entry (frame_of S))) (y : Stop) (i j : ℕ) → Says (frame_of S) room l (verdict_of y i j) → (i < length l) × (j < length S.moves)
+  named : (l : List (Entry (frame_of S))) (y : Stop) (i j : ℕ) → Says (frame_of S) rows_fit l (verdict_of y i j) → (i < length l) × (j < length S.moves)
   named l stop.Unsafe i j m = met-there (frame_of S) m
   named l stop.AtomsFull i j m = met-there (frame_of S) m
   named l stop.RowsFull i j m = met-there (frame_of S) m
@@ -99,43 +105,25 @@ module _ (t : List ℕ) (s : Shape) (g : GoodTable t s) (room : ℕ) (h : 1 ≤ 
   same_rows l stop.AtomsFull i j = refl
   same_rows l stop.RowsFull i j = refl
 
-  finish : (x : std.Result ℕ Ended) (u : List ℕ) → Walks S room v 1 x u → Finish x u
+  finish : (x : std.Result ℕ Ended) (u : List ℕ) → Walks S rows_fit v 1 x u → Finish x u
   finish x u (whole {n = n} q b) = λ run. leaves u n explore.safe q b run (Ok (verdict.Safe n)) run (ap (λ (m : ℕ). Ok (verdict.Safe m)) (sym (entries-count S u n))) refl (front-none run)
   finish x u (short {y = y} {n = n} {i = i} {j = j} q b) =
       let m = named (entries S u n) y i j (says u n (verdict_of y i j) q) in
       (b.standing, omega (arith, entries-count S u n), omega (arith, moves-length t s g), λ run r run' c. leaves u n (verdict_of y i j) q b run r run' c.answer (same_rows (entries S u n) y i j) c.words)
 
-  module _ (x : std.Result ℕ Ended) (u : List ℕ) (d : Walks S room v 1 x u) where
-    pub leaves-safe : (n : ℕ) (run : List ℕ) → x ≡ Ok n → Leaves (found_by S found) w run (Ok (verdict.Safe n)) u run
-    leaves-safe n run z = subst (λ (y : std.Result ℕ Ended). Finish y u) z (finish x u d) run
+  module _ (x : std.Result ℕ Ended) (u : List ℕ) (d : Walks S rows_fit v 1 x u) where
+    pub leaves-safe : (n : ℕ) (run : List ℕ) → x ≡ Ok n → Leaves (found_by S (found (length w))) w run (Ok (verdict.Safe n)) u run
+    leaves-safe n run c = subst (λ (y : std.Result ℕ Ended). Finish y u) c (finish x u d) run
 
-    module _ (end : Ended) (z : x ≡ Err end) where
+    module _ (end : Ended) (c : x ≡ Err end) where
       at-end : Finish (Err end) u
-      at-end = subst (λ (q : std.Result ℕ Ended). Finish q u) z (finish x u d)
+      at-end = subst (λ (q : std.Result ℕ Ended). Finish q u) c (finish x u d)
 
-      pub end-stands : Standing S room u end.rows
-      end-stands = at-end.0
+      pub last-visit : length u ≡ length v → LeadBack S u end.rows × ((end.row < end.rows) × (end.transition < s.transitions))
+      last-visit y = (leads_back S rows_fit u end.rows at-end.0 (ap room_of (sym y)), (at-end.1, at-end.2))
 
-      pub end_row : end.row < end.rows
-      end_row = at-end.1
-
-      pub end-move : end.transition < s.transitions
-      end-move = at-end.2
-
-      pub leaves-ended : (run : List ℕ) (r : Answer) (run' : List ℕ) → Concluded S (entries S u end.rows) end.row end.transition end.why run r run' → Leaves (found_by S found) w run r u run'
+      pub leaves-ended : (run : List ℕ) (r : Answer) (run' : List ℕ) → Concluded S (entries S u end.rows) end.row end.transition end.why run r run' → Leaves (found_by S (found (length w))) w run r u run'
       leaves-ended = at-end.3
-
--- ---- the room
-
-module _ (n r : ℕ) (e : r ≡ room_of n) where
-  pub room-is-few : r ≤ 1024
-  room-is-few = rw e (room-few n)
-
-  pub room-is-there : 103 * r ≤ n
-  room-is-there = rw e (room_fits n)
-
-  pub room-is-some : 103 ≤ n → 1 ≤ r
-  room-is-some h = rw e (room-one n h)
 
 -- ---- the conclusion
 
@@ -196,10 +184,10 @@ module _ (t : List ℕ) (s : Shape) (g : GoodTable t s) (work run : List ℕ) wh
       unfolding search_system
       searches-bad b = leaves-as _ _ work run _ work run (lt-else _ _ _ _ h (lt-else _ _ _ _ k (true-then _ _ _ (start-bad true b) refl)) ∙ good) (leaves_none _ work run)
 
-      pub searches-found : (room : ℕ) (r : Answer) (work' run' : List ℕ) → room ≡ room_of (length work) → false ≡ bad_state t s s.start
-          → Leaves (found_by (system_of t) (explore.search (frame_of (system_of t)) room (first_entry (system_of t)))) work run r work' run' → Searches t work run r work' run'
+      pub searches-found : (r : Answer) (work' run' : List ℕ) → false ≡ bad_state t s s.start
+          → Leaves (found_by (system_of t) (explore.search (frame_of (system_of t)) (room_of (length work)) (first_entry (system_of t)))) work run r work' run' → Searches t work run r work' run'
       unfolding search_system
-      searches-found room r work' run' e b d = leaves-as _ _ work run r work' run' (ap (λ (x : ℕ). found_by (system_of t) (explore.search (frame_of (system_of t)) x (first_entry (system_of t)))) e ∙ lt-else _ _ _ _ h (lt-else _ _ _ _ k (true-else _ _ _ (start-bad false b) refl)) ∙ good) d
+      searches-found r work' run' b d = leaves-as _ _ work run r work' run' (lt-else _ _ _ _ h (lt-else _ _ _ _ k (true-else _ _ _ (start-bad false b) refl)) ∙ good) d
 
 -- One answer and one content of lent memory: two that keep the promise are equal.
 pub one-search : (t work run : List ℕ) (r r' : Answer) (w w' v v' : List ℕ) → Searches t work run r w v → Searches t work run r' w' v' → (r ≡ r') × (w ≡ w') × (v ≡ v')

@@ -15,6 +15,8 @@ use Rattle.rows.specs.Rows.{Row, covers}
 use Rattle.rows.specs.Look as look
 use Rattle.rows.proofs.NormalLaws.{Normals}
 use Rattle.work.specs.Layout.{Stored, all_words, count_place, Narrow, NarrowRows, Holds}
+use Rattle.work.specs.Room.{room_of}
+pub use Rattle.work.proofs.RoomLaws.{room_fits, room-few}
 use Rattle.work.proofs.LayoutLaws.{all-length, held-state, held-parent, held_move, held-count, held-atoms}
 use Rattle.explore.specs.Search.{Entry, covered}
 use Rattle.explore.specs.Found.{Rows}
@@ -22,7 +24,7 @@ use Rattle.findings.specs.Search.{frame_of, first_entry}
 use Rattle.findings.proofs.RowLaws.{entry-row-of, entry-normal, entry-narrow}
 use Rattle.outcome.specs.Look.{product_at, row_at, rows_at, covered_in, Sized}
 use Rattle.outcome.proofs.LookLaws.{product-there}
-use Rattle.search.specs.Standing.{entry_at, entries_at, entries, stored_of, stored, Standing, Grown}
+use Rattle.search.specs.Standing.{entry_at, entries_at, entries, stored_of, stored, Standing, LeadBack, Grown}
 
 module _ (S : System) where
   entries-length : (w : List ℕ) (k i : ℕ) → length (entries_at S w k i) ≡ k
@@ -39,8 +41,20 @@ module _ (S : System) where
   pub entries-count : (w : List ℕ) (rows : ℕ) → length (entries S w rows) ≡ rows
   entries-count w rows = entries-length w rows 0
 
+  -- How many rows stand, and that they fit.
+  pub ruleset row_counts = (entries-count, room_fits, room-few)
+
   pub entry-there : (w : List ℕ) (rows i : ℕ) → i < rows → At (entries S w rows) i (entry_at S w i)
   entry-there w rows i h = entries-at w rows 0 i i h (omega arith)
+
+  -- Rows that stand lead back to row 0.
+  pub leads_back : (room : ℕ) (w : List ℕ) (rows : ℕ) → Standing S room w rows → room ≡ room_of (length w) → LeadBack S w rows
+  leads_back room w rows st e =
+      record {
+        few = omega (arith, st.made.few, entries-count w rows);
+        earlier = λ n z h. (st.made.linked n (entry_at S w n) z (entry-there w rows n h)).earlier;
+        moves = λ n z h. (st.made.linked n (entry_at S w n) z (entry-there w rows n h)).move;
+      }
 
   -- The look over the words is the look over the rows that they tell.
   looked : (w : List ℕ) (o : Row) (k i : ℕ) → any_of (λ s. covers S.channels s o) (rows_at w k i) ≡ any_of (λ e. covers S.channels e.row o) (entries_at S w k i)
@@ -164,9 +178,6 @@ module _ (S : System) where
     -- ---- words that stand
 
     module _ (w : List ℕ) (rows : ℕ) (st : Standing S room w rows) where
-      pub standing-few : rows ≤ room
-      standing-few = omega (arith, st.made.few, entries-count w rows)
-
       pub standing-there : 103 * rows ≤ length w
       unfolding front
       standing-there =

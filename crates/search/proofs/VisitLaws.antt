@@ -21,9 +21,7 @@ use Rattle.table.specs.declared.transitions.Transition.{Transition}
 use Rattle.table.proofs.SystemLaws.{channels-are, moves-length, move-at, bads-are, well-made, few-channels, few-messages}
 use Rattle.work.specs.Layout.{Stored, Holds}
 use Rattle.work.specs.Append.{next_row}
-use Rattle.work.specs.Room.{room_of}
 use Rattle.work.proofs.AppendLaws.{append-holds}
-use Rattle.work.proofs.RoomLaws.{room-few}
 use Rattle.explore.specs.Search.{Entry, covered, on, tests}
 use Rattle.explore.proofs.WalkLaws.{Kept, tests-kept}
 use Rattle.findings.specs.Search.{is_too_wide, frame_of, first_entry, outcome_at, bad_row}
@@ -31,11 +29,11 @@ use Rattle.findings.proofs.RowLaws.{wide-one, wide-none, outcome-row-of, entry-r
 use Rattle.outcome.specs.Look.{row_at, outcome_row, covered_in, Sized, product_at}
 use Rattle.search.specs.Standing.{entry_at, entries, stored_of, stored, Standing}
 use Rattle.search.specs.Visits.{Tests, goes, stops}
-use Rattle.outcome.specs.Changes.{changed_in, FewChanged}
+use Rattle.rows.specs.Changes.{changed_in, FewChanged}
 use Rattle.rows.specs.declared.changes.Changed.{Changed}
 use Rattle.search.specs.declared.visits.Stop.TheVariants.{Unsafe, AtomsFull, RowsFull}
 use Rattle.search.specs.declared.visits.Stop.{Stop}
-use Rattle.search.proofs.StandingLaws.{entries-count, entry-there, grown-none, look_is, narrow-rows, tells, standing-few, standing-sized, standing-normal}
+use Rattle.search.proofs.StandingLaws.{entries-count, entry-there, grown-none, look_is, narrow-rows, tells, standing-sized, standing-normal}
 
 pub few-changed : (r : std.Option Changed) (d : Changed) → r ≡ std.Some d → FewChanged r → d.count ≤ 25
 few-changed r d e f = (subst FewChanged e f).1
@@ -48,12 +46,6 @@ module _ (t : List ℕ) (s : Shape) (g : GoodTable t s) where
     pub sized : Sized w rows
     sized = standing-sized S (well-made t s g) (few-messages t s g) (few-channels t s g) room w rows st
 
-    pub few_rows : rows ≤ room
-    few_rows = standing-few S (well-made t s g) (few-messages t s g) (few-channels t s g) room w rows st
-
-    pub few-room : room ≡ room_of (length w) → rows ≤ 1024
-    few-room e = omega (arith, few_rows, e, room-few (length w))
-
     pub normals : (i : ℕ) → i < rows → Normals (product_at w i)
     normals i h = standing-normal S (well-made t s g) (few-messages t s g) (few-channels t s g) room w rows st i h
 
@@ -64,16 +56,12 @@ module _ (t : List ℕ) (s : Shape) (g : GoodTable t s) where
       move : j < length S.moves
       move = rw (moves-length t s g) m
 
+      -- The tests of the move's outcome, which is that one.
       abbrev Goal : Result ℕ Stop → List ℕ → Type 0
-      Goal r v = Tests S room w rows i j (some o) r v
+      Goal r v = Tests S room w rows i j (outcome_at S (row_at w i) j) r v
 
-      -- How the tests answer for the system's rows.
-      bad-is : (b : Bool) → b ≡ bad_state t s target → bad_row S o ≡ b
-      unfolding bad_state
-      bad-is b e = rw (bads-are t s g) (sym e)
-
-      covered-is : (c : Bool) → c ≡ covered_in s.channels w rows o → covered (frame_of S) (entries S w rows) o ≡ c
-      covered-is c e = sym (look_is S w rows o) ∙ ap (λ (n : ℕ). covered_in n w rows o) (channels-are t s g) ∙ sym e
+      tested : (r : Result ℕ Stop) (v : List ℕ) → Tests S room w rows i j (some o) r v → Goal r v
+      tested r v d = subst (λ (x : Option Row). Tests S room w rows i j x r v) (sym comes) d
 
       -- Row i, from which the outcome comes.
       there : At (entries S w rows) i (entry_at S w i)
@@ -106,56 +94,67 @@ module _ (t : List ℕ) (s : Shape) (g : GoodTable t s) where
           (put-each (product_at w i) channel q (λ d x. length x ≤ 24) k
           (λ d n. entry-narrow S (well-made t s g) (few-messages t s g) room (entries S w rows) st.made i (entry_at S w i) there d))
 
-      pub test-bad : true ≡ bad_state t s target → Goal (Err Unsafe) w
-      unfolding tests
-      test-bad b = stops {y = Unsafe} (sym (true-then _ _ _ (bad-is true b) refl))
+      -- What the look for a bad state says.
+      module _ (b : Bool) (bad : b ≡ bad_state t s target) where
+        bad-is : bad_row S o ≡ b
+        unfolding bad_state
+        bad-is = rw (bads-are t s g) (sym bad)
 
-      module _ (b : false ≡ bad_state t s target) where
-        pub test-covered : true ≡ covered_in s.channels w rows o → Goal (Ok rows) w
+        pub test-bad : b ≡ true → Goal (Err Unsafe) w
         unfolding tests
-        test-covered c = goes (sym (true-else _ _ _ (bad-is false b) (true-then _ _ _ (covered-is true c) refl))) (grown-none S room w rows st)
+        test-bad y = tested _ w (stops {y = Unsafe} (sym (true-then _ _ _ (bad-is ∙ y) refl)))
 
-        module _ (c : false ≡ covered_in s.channels w rows o) where
-          pub test-wide : 24 < length q → Goal (Err AtomsFull) w
+        -- What the look for a row that contains the outcome says.
+        module _ (y : b ≡ false) (c : Bool) (looked : c ≡ covered_in s.channels w rows o) where
+          covered-is : covered (frame_of S) (entries S w rows) o ≡ c
+          covered-is = sym (look_is S w rows o) ∙ ap (λ (n : ℕ). covered_in n w rows o) (channels-are t s g) ∙ sym looked
+
+          pub test-covered : c ≡ true → Goal (Ok rows) w
           unfolding tests
-          test-wide k = stops {y = AtomsFull} (sym (true-else _ _ _ (bad-is false b) (true-else _ _ _ (covered-is false c) (true-then _ _ _ (wide_is k) refl))))
+          test-covered z = tested _ w (goes (sym (true-else _ _ _ (bad-is ∙ y) (true-then _ _ _ (covered-is ∙ z) refl))) (grown-none S room w rows st))
 
-          module _ (k : length q ≤ 24) where
-            pub test-full : room ≤ rows → Goal (Err RowsFull) w
+          module _ (z : c ≡ false) where
+            pub test-wide : 24 < length q → Goal (Err AtomsFull) w
             unfolding tests
-            test-full f =
-                stops {y = RowsFull}
-                (sym (true-else _ _ _ (bad-is false b) (true-else _ _ _ (covered-is false c) (true-else _ _ _ (narrow-is k) (lt-else _ _ _ _ (omega (arith, entries-count S w rows)) refl)))))
+            test-wide k = tested _ w (stops {y = AtomsFull} (sym (true-else _ _ _ (bad-is ∙ y) (true-else _ _ _ (covered-is ∙ z) (true-then _ _ _ (wide_is k) refl)))))
 
-            module _ (f : rows < room) where
-              abbrev new : Entry (frame_of S)
-              new = record { row = o; parent = i; move = j }
-
-              abbrev grown : List (Entry (frame_of S))
-              grown = entries S w rows ++ (new ∷ [])
-
-              goes_on : tests (frame_of S) room (entries S w rows) i j (some o) ≡ on grown
+            module _ (k : length q ≤ 24) where
+              pub test-full : room ≤ rows → Goal (Err RowsFull) w
               unfolding tests
-              goes_on =
-                  sym (true-else _ _ _ (bad-is false b) (true-else _ _ _ (covered-is false c) (true-else _ _ _ (narrow-is k)
-                  (lt-then _ _ _ _ (omega (arith, entries-count S w rows)) refl))))
+              test-full f =
+                  tested _ w
+                  (stops {y = RowsFull}
+                  (sym (true-else _ _ _ (bad-is ∙ y) (true-else _ _ _ (covered-is ∙ z) (true-else _ _ _ (narrow-is k) (lt-else _ _ _ _ (omega (arith, entries-count S w rows)) refl))))))
 
-              kept : Kept (frame_of S) room (first_entry S) (entries S w rows) (on grown)
-              kept =
-                  subst (Kept (frame_of S) room (first_entry S) (entries S w rows)) (ap (tests (frame_of S) room (entries S w rows) i j) comes ∙ goes_on)
-                  (tests-kept (frame_of S) room (first_entry S) (entries S w rows) (entry_at S w i) i j st.made there move)
+              module _ (f : rows < room) where
+                abbrev new : Entry (frame_of S)
+                new = record { row = o; parent = i; move = j }
 
-              pub test-append : (v : List ℕ) (a b : ℕ) → a ≡ target → b ≡ j → v ≡ put_at w (103 * rows) (next_row w a i b channel q) → Goal (Ok (rows + 1)) v
-              test-append v a b x y e =
-                  let a : Holds v (stored S grown) w =
-                  subst (λ (x : List Stored). Holds v x w) (sym (map-append (stored_of S) (entries S w rows) (new ∷ [])))
-                  (append-holds w (stored S (entries S w rows)) w i (stored_of S (entry_at S w i)) st.laid
-                  (narrow-rows S (well-made t s g) (few-messages t s g) (few-channels t s g) room (entries S w rows) st.made)
-                  ((at_map (stored_of S) (entries S w rows) i _).1 (entry_at S w i, there, refl))
-                  channel q target j rows v (length-map (entries S w rows) (stored_of S) ∙ entries-count S w rows) (e ∙ ap (λ (z : ℕ). put_at w (103 * rows) (next_row w z i b channel q)) x ∙ ap (λ (z : ℕ). put_at w (103 * rows) (next_row w target i z channel q)) y)) in
-                  let n : length grown ≡ rows + 1 = length-append (entries S w rows) (new ∷ []) ∙ ap (λ (x : ℕ). x + 1) (entries-count S w rows) in
-                  let d = tells S (well-made t s g) (few-messages t s g) (few-channels t s g) room grown kept.0 w v (rows + 1) a n in
-                  goes (goes_on ∙ ap on (sym d.rows)) (record { standing = d.standing; grows = subst (Grows (entries S w rows)) (sym d.rows) kept.1; behind = d.behind })
+                abbrev grown : List (Entry (frame_of S))
+                grown = entries S w rows ++ (new ∷ [])
+
+                goes_on : tests (frame_of S) room (entries S w rows) i j (some o) ≡ on grown
+                unfolding tests
+                goes_on =
+                    sym (true-else _ _ _ (bad-is ∙ y) (true-else _ _ _ (covered-is ∙ z) (true-else _ _ _ (narrow-is k)
+                    (lt-then _ _ _ _ (omega (arith, entries-count S w rows)) refl))))
+
+                kept : Kept (frame_of S) room (first_entry S) (entries S w rows) (on grown)
+                kept =
+                    subst (Kept (frame_of S) room (first_entry S) (entries S w rows)) (ap (tests (frame_of S) room (entries S w rows) i j) comes ∙ goes_on)
+                    (tests-kept (frame_of S) room (first_entry S) (entries S w rows) (entry_at S w i) i j st.made there move)
+
+                pub test-append : (v : List ℕ) (a b : ℕ) → a ≡ target → b ≡ j → v ≡ put_at w (103 * rows) (next_row w a i b channel q) → Goal (Ok (rows + 1)) v
+                test-append v a b x y e =
+                    let a : Holds v (stored S grown) w =
+                    subst (λ (x : List Stored). Holds v x w) (sym (map-append (stored_of S) (entries S w rows) (new ∷ [])))
+                    (append-holds w (stored S (entries S w rows)) w i (stored_of S (entry_at S w i)) st.laid
+                    (narrow-rows S (well-made t s g) (few-messages t s g) (few-channels t s g) room (entries S w rows) st.made)
+                    ((at_map (stored_of S) (entries S w rows) i _).1 (entry_at S w i, there, refl))
+                    channel q target j rows v (length-map (entries S w rows) (stored_of S) ∙ entries-count S w rows) (e ∙ ap (λ (z : ℕ). put_at w (103 * rows) (next_row w z i b channel q)) x ∙ ap (λ (z : ℕ). put_at w (103 * rows) (next_row w target i z channel q)) y)) in
+                    let n : length grown ≡ rows + 1 = length-append (entries S w rows) (new ∷ []) ∙ ap (λ (x : ℕ). x + 1) (entries-count S w rows) in
+                    let d = tells S (well-made t s g) (few-messages t s g) (few-channels t s g) room grown kept.0 w v (rows + 1) a n in
+                    tested _ v (goes (goes_on ∙ ap on (sym d.rows)) (record { standing = d.standing; grows = subst (Grows (entries S w rows)) (sym d.rows) kept.1; behind = d.behind }))
 
     -- ---- the outcome of move j of row i, which transition u is
 
@@ -186,7 +185,3 @@ module _ (t : List ℕ) (s : Shape) (g : GoodTable t s) where
         pub visit-comes : (d : Changed) → r ≡ std.Some d → outcome_at S (row_at w i) j ≡ some (outcome_row w u.target i d.channel (take d.count b))
         unfolding part
         visit-comes d k = comes-is ∙ ap (λ (x : std.Option Changed). map (arrived (move_of u)) (changed_in x (product_at w i) b)) k
-
-      -- What the tests of the outcome say, the move's outcome being that.
-      pub visit-tested : (o : Row) (r : Result ℕ Stop) (v : List ℕ) → outcome_at S (row_at w i) j ≡ some o → Tests S room w rows i j (some o) r v → Tests S room w rows i j (outcome_at S (row_at w i) j) r v
-      visit-tested o r v z d = subst (λ (x : Option Row). Tests S room w rows i j x r v) (sym z) d

@@ -1,5 +1,5 @@
 -- The rows that the words of the work table tell, as rows of the search.
-use Rattle.std.specs.Prelude.{◌≡◌, List, [], ◌∷◌, map, ℕ, zero, suc, ◌+◌, ◌*◌, get_or, length, drop}
+use Rattle.std.specs.Prelude.{◌≡◌, List, [], ◌∷◌, map, ℕ, zero, suc, ◌+◌, ◌*◌, ◌<◌, ◌≤◌, get_or, length, drop}
 use Rattle.common.proofs.AtLaws.{Grows}
 use Rattle.meaning.specs.Systems.{System}
 use Rattle.work.specs.Layout.{Stored, Holds}
@@ -38,6 +38,12 @@ module _ (S : System) where
   -- With the room that the words have.
   abbrev pub Stands : List ℕ → ℕ → Type 0
   Stands w rows = Standing (room_of (length w)) w rows
+
+  -- Rows that lead back to row 0: they have room, and each but the first tells the row that it came from, an earlier one, and the transition.
+  pub record LeadBack (w : List ℕ) (rows : ℕ) : Type 0 where
+    pub few : rows ≤ room_of (length w)
+    pub earlier : (n : ℕ) → 0 < n → n < rows → get_or w (103 * n + 1) 0 < n
+    pub moves : (n : ℕ) → 0 < n → n < rows → get_or w (103 * n + 2) 0 < length S.moves
 
   -- From the words w with so many rows the words v with n rows came: the rows are still there, and what stands behind the n rows is as it was.
   pub record Grown (room : ℕ) (w : List ℕ) (rows : ℕ) (v : List ℕ) (n : ℕ) : Type 0 where

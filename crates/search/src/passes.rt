@@ -1,4 +1,4 @@
-// The walk over the rows in order, and over each row's transitions in file order.
+// The walk over the rows in order, and over each row's transitions in file order. Work table, count and buffer are as in visits.rt.
 ghost use Rattle.std.specs.Prelude.{◌<◌, ◌≤◌, length};
 ghost use Rattle.table.specs.Systems.{system_of};
 ghost use Rattle.work.specs.Room.{room_of};

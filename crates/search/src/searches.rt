@@ -1,16 +1,15 @@
 // The search of a table. Any bytes and any lent words are taken.
-ghost use Rattle.std.specs.Prelude.{◌≡◌, ◌*◌, ◌<◌, ◌≤◌, length, Ok};
+ghost use Rattle.std.specs.Prelude.{◌≡◌, ◌*◌, ◌≤◌, length, Ok};
 ghost use Rattle.table.specs.Systems.{system_of};
 ghost use Rattle.work.specs.Room.{room_of};
 ghost use Rattle.explore.specs.Search as explore;
 ghost use Rattle.findings.specs.Search.{frame_of, first_entry};
-ghost use Rattle.search.specs.Standing.{entries, Stands};
 ghost use Rattle.search.specs.Searching.{found_by, Leaves, Concluded, Searches};
 
 use crate::passes::{Ended, walk_rows};
-use crate::runs::write_run;
+use crate::runs::LastVisit;
 use crate::visits::Stop;
-use table::{Refusal, Table};
+use table::{Refusal, Table, Told};
 use work::appending::start_row;
 use work::reading::room_of;
 
@@ -53,33 +52,61 @@ impl From<Refusal> for Refused {
     }
 }
 
-// The verdict where the search ended at a transition; only with unsafe the run buffer is written. Inner.
-fn conclude(table: &Table, w: &[u16], end: Ended, run: &mut [u16]) -> Verdict
-    requires there { Stands (system_of table.now.bytes.now) w.now end.rows × (end.row < end.rows) × (end.transition < table.now.shape.transitions) }
-    requires room { 2 * room_of (length w.now) ≤ length run.old }
-    ensures { Concluded (system_of table.now.bytes.now) (entries (system_of table.now.bytes.now) w.now end.rows) end.row end.transition end.why run.old (Ok result) run.new }
-{
-    let Ended {
-        why,
-        rows,
-        row,
-        transition,
-    } = end;
-    match why {
-        Stop::Unsafe => {
-            let steps = write_run(table, w, end, run);
-            Verdict::Unsafe { rows, steps }
+// A lent buffer is input 3, and its length the place.
+impl From<Refused> for Told {
+    ghost use Rattle.std.specs.Prelude.{Err};
+    ghost use Rattle.table.specs.Answers.{refusal_told};
+    ghost use Rattle.search.specs.Searching as search;
+
+    ghost from_gives = { λ refused told. search.said (Err refused) ≡ search.refused (refusal_told told) };
+
+    fn from(refused: Refused) -> Told {
+        match refused {
+            Refused::Table(refusal) => Told::from(refusal),
+            Refused::SmallWork(words) => Told {
+                number: 7,
+                input: 3,
+                place: words,
+            },
+            Refused::SmallRun(places) => Told {
+                number: 8,
+                input: 3,
+                place: places,
+            },
         }
-        Stop::AtomsFull => Verdict::AtomsFull {
+    }
+}
+
+impl LastVisit<'_> {
+    ghost use Rattle.search.specs.Runs.{system_at, rows_at};
+
+    // The verdict that the search ended with; only with unsafe the run buffer is written. Inner.
+    fn verdict(&self, run: &mut [u16]) -> Verdict
+        requires room { 2 * room_of (length self.now.words.now) ≤ length run.old }
+        ensures { Concluded (system_at self.now) (rows_at self.now) self.now.end.row self.now.end.transition self.now.end.why run.old (Ok result) run.new }
+    {
+        let Ended {
+            why,
             rows,
             row,
             transition,
-        },
-        Stop::RowsFull => Verdict::RowsFull {
-            rows,
-            row,
-            transition,
-        },
+        } = self.end;
+        match why {
+            Stop::Unsafe => {
+                let steps = self.write_run(run);
+                Verdict::Unsafe { rows, steps }
+            }
+            Stop::AtomsFull => Verdict::AtomsFull {
+                rows,
+                row,
+                transition,
+            },
+            Stop::RowsFull => Verdict::RowsFull {
+                rows,
+                row,
+                transition,
+            },
+        }
     }
 }
 
@@ -92,7 +119,14 @@ fn search_rows(table: &Table, work: &mut [u16], run: &mut [u16]) -> Verdict
     let mut buffer = [0u16; 25];
     match walk_rows(table, work, &mut buffer) {
         Ok(rows) => Verdict::Safe(rows),
-        Err(end) => conclude(table, work, end, run),
+        Err(end) => {
+            let last = LastVisit {
+                table,
+                words: work,
+                end,
+            };
+            last.verdict(run)
+        }
     }
 }
 
@@ -114,7 +148,7 @@ pub fn search_good(table: &Table, work: &mut [u16], run: &mut [u16]) -> Result<V
     Ok(search_rows(table, work, run))
 }
 
-// The search: its verdict, the rows in the work table, and with unsafe the run in the first words of the run buffer.
+// The search: its verdict, the rows in the work table, and with unsafe the run in the first words of the run buffer. The two are lent apart, as C lends them.
 pub fn search(t: &[u8], work: &mut [u16], run: &mut [u16]) -> Result<Verdict, Refused>
     ensures { Searches t.now work.old run.old result work.new run.new }
 {

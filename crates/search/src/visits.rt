@@ -1,4 +1,6 @@
-// The visit of one move of a row: its outcome, and the six tests of it in order.
+// The visit of one move of a row: its outcome, and the six tests of it in order. Work table and count of rows stay two parameters: Tests, Passes and Walks,
+// which visit_move and walk_rows promise, speak of the words that are left and of the count that is answered. The buffer is a slice of at least 25 words and
+// no array: docs/ARCHITECTURE.md names both, and an array would ask more of their callers.
 ghost use Rattle.std.specs.Prelude.{◌≡◌, ◌<◌, ◌≤◌, length};
 ghost use Rattle.std.proofs.Math.Option.{some};
 ghost use Rattle.table.specs.Systems.{system_of};
@@ -24,9 +26,6 @@ pub enum Stop {
     RowsFull,
 }
 
-// Work table and count of rows stay two parameters: the words are lent to be written, and each call answers how many rows there are then. The buffer is a
-// slice of at least 25 words and no array: visit_move and walk_rows are public, and an array would ask more of their callers.
-
 // The tests of the outcome of a transition. It is bad; contained in a row; too wide; there is no room; else it is appended. Answers how many rows there
 // are then, or why the search ends. Inner.
 fn test_outcome(
@@ -39,7 +38,7 @@ fn test_outcome(
     requires standing { Stands (system_of table.now.bytes.now) w.old rows }
     requires comes { outcome_at (system_of table.now.bytes.now) (row_at w.old outcome.now.source_row) transition ≡ some (outcome_row (row_at w.old) outcome.now) }
     requires there { (outcome.now.source_row < rows) × (transition < table.now.shape.transitions) × (outcome.now.target < 65536) }
-    ensures { Tests (system_of table.now.bytes.now) (room_of (length w.old)) w.old rows outcome.now.source_row transition (some (outcome_row (row_at w.old) outcome.now)) result w.new }
+    ensures { Tests (system_of table.now.bytes.now) (room_of (length w.old)) w.old rows outcome.now.source_row transition (outcome_at (system_of table.now.bytes.now) (row_at w.old outcome.now.source_row) transition) result w.new }
 {
     if table.is_bad(outcome.target) {
         return Err(Stop::Unsafe);

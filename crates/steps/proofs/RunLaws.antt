@@ -1,29 +1,13 @@
 -- Lines of a run, read one after the other.
 use Rattle.std.proofs.Common.{◌≡◌, refl, sym, ap, ◌∙◌, List, [], ◌∷◌, ◌++◌, ℕ, suc, ◌+◌, ◌-◌, ◌<◌, ◌≤◌, length, set, arith, length-set, length-append}
-use Rattle.std.specs.Prelude.{Option, Some, None, Result, Ok, Err}
-use Rattle.std.specs.Option.{ok_or}
+use Rattle.std.specs.Prelude.{Option, Some, None, Ok, Err}
 use Rattle.common.specs.Part.{part}
 use Rattle.common.proofs.PartLaws.{part_none, part-set}
 use Rattle.wording.specs.Words.{unsafe_word, steps_word, kept_word, lost_word, receive_word, quiet_word, end_word}
-use Rattle.steps.specs.Texts.{Read, read, nothing, behind, either, number_in, read_as}
-use Rattle.steps.specs.Runs.{ending_in, step_in, first_in, run, not_at, steps_in, run_in, Tells}
+use Rattle.steps.specs.Texts.{Read, read, nothing, behind, number_in, read_as}
+use Rattle.steps.specs.Runs.{ending_in, step_in, first_in, run, not_at, steps_in, Tells}
 use Rattle.steps.specs.declared.texts.Found.{Found}
-use Rattle.steps.specs.declared.runs.NoRun.{NoRun}
-use Rattle.steps.proofs.TextLaws.{Within, next-within, wider, either_assoc, either-within, word-within, number-within, counted-within, found-within}
-
--- ---- what stands behind a step's number
-
--- The first of four, in the order in which the code asks for them.
-pub endings : (n : ℕ) (l : List ℕ)
-    → either (either (either (behind n (kept_word ++ end_word) l) (behind (n + 32768) (lost_word ++ end_word) l)) (behind n (receive_word ++ end_word) l)) (behind n (quiet_word ++ end_word) l)
-    ≡ ending_in n l
-unfolding ending_in
-endings n l =
-    let kept = behind n (kept_word ++ end_word) l in
-    let lost = behind (n + 32768) (lost_word ++ end_word) l in
-    let received = behind n (receive_word ++ end_word) l in
-    let quiet = behind n (quiet_word ++ end_word) l in
-    either_assoc (either kept lost) received quiet ∙ either_assoc kept lost (either received quiet)
+use Rattle.steps.proofs.TextLaws.{Within, next-within, wider, either-within, word-within, number-within, counted-within, found-within}
 
 -- ---- what is left behind a line
 
@@ -116,19 +100,4 @@ module _ (text : List ℕ) (steps : ℕ) (words₀ : List ℕ) where
         ends [] k = refl
         ends (x ∷ l) k = absurd (omega arith)
 
--- ---- a whole text
-
-module _ (l : List ℕ) (r : Option Found) (x : read_as r ≡ first_in l) where
-  told : elim (read_as r) [ nothing ↦ not_at 1 | read steps s ↦ steps_in steps [] s 2 ] ≡ run_in l
-  unfolding run_in
-  told = ap (λ (m : Read). elim m [ nothing ↦ not_at 1 | read steps s ↦ steps_in steps [] s 2 ]) x
-
-  pub run-nothing : (words : List ℕ) → r ≡ None → Tells (run_in l) (Err (record { line = 1 })) words
-  run-nothing words e = record { says = rw e at told; fits = tt }
-
-  -- The refusal that is made of nothing.
-  pub no-run : r ≡ None → (e y : NoRun) → ◌≡◌ {A = Result Found NoRun} (Err y) (ok_or r e) → y ≡ e
-  no-run z e y h = let k : ◌≡◌ {A = Result Found NoRun} (Err y) (Err e) = h ∙ ap (λ (o : Option Found). ok_or o e) z in cc
-
-  pub run-then : (f : Found) (q : Result ℕ NoRun) (words : List ℕ) → r ≡ Some f → Tells (steps_in f.value [] f.rest.now 2) q words → Tells (run_in l) q words
-  run-then f q words e y = record { says = y.says ∙ rw e at told; fits = y.fits }
+pub ruleset run_turns = (stepping-starts, stepping-fails, stepping-over, stepping-ends)

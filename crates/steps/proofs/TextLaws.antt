@@ -1,11 +1,10 @@
 -- Words and numbers at the front of a text: what is read where the code's tests say so, and how much of the text it leaves.
 use Rattle.std.proofs.Common.{◌≡◌, refl, sym, ap, ◌∙◌, subst, Bool, true, false, ◌&&◌, cond, ◌⊎◌, inl, inr, List, [], ◌∷◌, ℕ, ◌+◌, ◌*◌, ◌-◌, ◌<◌, ◌≤◌, length, take, drop, get_or, eqb, arith}
-use Rattle.std.specs.Prelude.{Option, Some, None, MatchOption}
+use Rattle.std.specs.Prelude.{Option, Some, None}
 use Rattle.std.specs.Cmp.Lexicographic.{pointwise}
 use Rattle.std.proofs.lemmas.List.{drop_more, take_rest, drop_all}
-use Rattle.std.proofs.lemmas.Option.{none-some, same_Some}
 use Rattle.common.specs.Choice.{if_lt, if_eq}
-use Rattle.common.proofs.ChoiceLaws.{lt-then, lt-else, lt-cases, eq-then, eq-else, eq-cases}
+use Rattle.common.proofs.ChoiceLaws.{choices, lt-then, lt-else, lt-cases, eq-then, eq-else, eq-cases}
 use Rattle.steps.specs.Texts.{Read, read, nothing, behind, next, either, digit_of, digits_in, number_in, counted_in, read_as}
 use Rattle.steps.specs.declared.texts.Found.{Found}
 
@@ -36,17 +35,9 @@ word-other v (x ∷ w) (y ∷ l) e = go (eqb y x) e (word-other v w l)
 
 -- ---- digits and numbers, by the digit at the front
 
-pub digit-small : (c d : ℕ) → digit_of c ≡ Some d → d < 10
+pub digit_tells : (c : ℕ) → (digit_of c ≡ None) ⊎ ((d : ℕ) × (digit_of c ≡ Some d) × (d < 10))
 unfolding digit_of
-digit-small c d e = go (lt-cases _ _ _ _ e)
-  where
-    here : ((57 < c) × (None ≡ Some d)) ⊎ ((c ≤ 57) × (Some (c - 48) ≡ Some d)) → d < 10
-    here (inl r) = absurd (none-some d r.1)
-    here (inr r) = let e : c - 48 ≡ d = same_Some _ _ r.1 in omega arith
-
-    go : ((c < 48) × (None ≡ Some d)) ⊎ ((48 ≤ c) × (if_lt 57 c None (Some (c - 48)) ≡ Some d)) → d < 10
-    go (inl r) = absurd (none-some d r.1)
-    go (inr r) = here (lt-cases _ _ _ _ r.1)
+digit_tells c = grind (arith, choices)
 
 module _ (n c : ℕ) (l : List ℕ) where
   pub digits-stop : digit_of c ≡ None → digits_in n (c ∷ l) ≡ read n (c ∷ l)
@@ -62,16 +53,7 @@ module _ (n c : ℕ) (l : List ℕ) where
     unfolding digits_in
     digits-on h = rw (e, digits_in) (sym (lt-else _ _ _ _ h refl))
 
-pub number-empty : (l : List ℕ) → length l ≡ 0 → number_in l ≡ nothing
-unfolding number_in
-number-empty [] e = refl
-number-empty (c ∷ l) e = absurd (omega arith)
-
 module _ (c : ℕ) (l : List ℕ) where
-  pub number-none : digit_of c ≡ None → number_in (c ∷ l) ≡ nothing
-  unfolding number_in
-  number-none e = rw (e, number_in) refl
-
   pub number-zero : digit_of c ≡ Some 0 → number_in (c ∷ l) ≡ read 0 l
   unfolding number_in
   number-zero e = rw (e, number_in) (sym (eq-then _ _ _ _ refl refl))
@@ -145,7 +127,7 @@ number-within (c ∷ l) = go (digit_of c) refl
     go : (o : Option ℕ) → digit_of c ≡ o → Within 32768 0 (c ∷ l) (elim o [ None ↦ nothing | Some d ↦ if_eq d 0 (read 0 l) (digits_in d l) ])
     go None e = tt
     go (Some d) e =
-        let k = digit-small c d e in
+        let k : d < 10 = grind (arith, digit_tells) in
         if_eq-within 32768 0 (c ∷ l) d 0 (read 0 l) (digits_in d l) (omega arith, omega arith) (longer 32768 c l (digits_in d l) (digits-within d l (omega arith)))
 
 pub counted-within : (w l : List ℕ) → Within 32768 0 l (counted_in w l)
@@ -155,32 +137,8 @@ counted-within w l =
 
 -- ---- what a call found
 
-module _ (r : Option Found) {m : Read} (e : read_as r ≡ m) where
-  -- Nothing, or a number with something behind it.
-  pub next-nothing : (f : ℕ → List ℕ → Read) → r ≡ None → nothing ≡ next m f
-  next-nothing f z = ap (λ (x : Option Found). next (read_as x) f) (sym z) ∙ ap (λ (x : Read). next x f) e
-
-  pub next-found : (f : ℕ → List ℕ → Read) (x : Found) → r ≡ Some x → f x.value x.rest.now ≡ next m f
-  next-found f x z = ap (λ (x : Option Found). next (read_as x) f) (sym z) ∙ ap (λ (x : Read). next x f) e
-
-  -- The same of the first of two.
-  pub either-nothing : (m' : Read) → r ≡ None → m' ≡ either m m'
-  either-nothing m' z = ap (λ (x : Option Found). either (read_as x) m') (sym z) ∙ ap (λ (x : Read). either x m') e
-
-  pub either-found : (m' : Read) (x : Found) → r ≡ Some x → read_as (Some x) ≡ either m m'
-  either-found m' x z = ap (λ (x : Option Found). either (read_as x) m') (sym z) ∙ ap (λ (x : Read). either x m') e
-
-  pub found-within : (b u : ℕ) (l : List ℕ) (x : Found) → r ≡ Some x → Within b u l m → (x.value < b) × (u + length x.rest.now ≤ length l)
-  found-within b u l x z w = subst (Within b u l) (sym e ∙ ap read_as z) w
-
-pub either_assoc : (m m' m'' : Read) → either (either m m') m'' ≡ either m (either m' m'')
-either_assoc nothing m' m'' = refl
-either_assoc (read v r) m' m'' = refl
-
--- What is read where the first finds nothing.
-pub or-else : (r q : Option Found) {m : Read} (m' : Read) {P : Type 0} → read_as r ≡ m → MatchOption r P (λ x. q ≡ Some x) → (P → read_as q ≡ m') → read_as q ≡ either m m'
-or-else None q m' e h f = f h ∙ ap (λ (x : Read). either x m') e
-or-else (Some x) q m' e h f = ap read_as h ∙ ap (λ (y : Read). either y m') e
+pub found-within : (r : Option Found) {m : Read} → read_as r ≡ m → (b u : ℕ) (l : List ℕ) (x : Found) → r ≡ Some x → Within b u l m → (x.value < b) × (u + length x.rest.now ≤ length l)
+found-within r e b u l x z w = subst (Within b u l) (sym e ∙ ap read_as z) w
 
 -- ---- the digits, one by one
 
@@ -204,3 +162,7 @@ unfolding digits_in
 digits_end text n i e h =
     let z : drop (length text) text ≡ [] = drop_all (length text) text (omega arith) in
     ap (read n) (take_rest text (length text) ∙ z) ∙ ap (digits_in n) (sym z ∙ ap (λ (k : ℕ). drop k text) (sym h)) ∙ e
+
+pub ruleset digit_turns = (digit_tells, digit-stops, digit-over, digit-goes_on, digits_end)
+
+pub ruleset word_tells = (word-there, word-other)

@@ -6,17 +6,20 @@ ghost use Rattle.steps.specs.Runs.{ending_in, step_in, first_in, steps_in, run_i
 use crate::texts::{Found, read_counted, read_number, read_word};
 
 // What stands behind a step's number, as the run word. Inner.
+#[tactic(auto, unfolding(crate::specs::Runs::ending_in))]
 fn read_ending<'a>(text: &'a [u8], number: usize) -> Option<Found<'a>>
     requires { number < 32768 }
     ensures { read_as result ≡ ending_in number text.now }
 {
     read_word(text, b" kept\n", number)
+        // Not through `u16::from` of a step, which is no plainer: a word that is read is a plain number here, like a count, and no step is made.
         .or_else(|| read_word(text, b" lost\n", number + 32768))
         .or_else(|| read_word(text, b" receive\n", number))
         .or_else(|| read_word(text, b" quiet\n", number))
 }
 
 // The line of a step, as its run word. Inner.
+#[tactic(auto, unfolding(crate::specs::Runs::step_in))]
 fn read_step<'a>(text: &'a [u8]) -> Option<Found<'a>>
     ensures { read_as result ≡ step_in text.now }
 {
@@ -25,6 +28,7 @@ fn read_step<'a>(text: &'a [u8]) -> Option<Found<'a>>
 }
 
 // The first line of an unsafe table, as its count of steps. Inner.
+#[tactic(auto, unfolding(crate::specs::Runs::first_in))]
 fn read_first<'a>(text: &'a [u8]) -> Option<Found<'a>>
     ensures { read_as result ≡ first_in text.now }
 {
@@ -40,6 +44,7 @@ pub struct NoRun {
 }
 
 // Reads so many steps, which stand behind the first line: so many words in the first places of the buffer. Inner.
+#[tactic(auto, using(crate::proofs::RunLaws::run_turns))]
 fn read_steps(text: &[u8], steps: usize, words: &mut [u16]) -> Result<usize, NoRun>
     requires { (length text.now ≤ length words.old) × (steps < 65536) }
     ensures { Tells (steps_in steps [] text.now 2) result words.new }
@@ -59,7 +64,8 @@ fn read_steps(text: &[u8], steps: usize, words: &mut [u16]) -> Result<usize, NoR
 }
 
 // Reads a whole text as the words of a run, which stand in the first places of the buffer, and says how many they are. There is a place in the
-// buffer for each byte of the text, so each line's word has one. Inner.
+// buffer for each byte of the text, so each line's word has one; text and buffer are apart since the caller reads the words there afterwards. Inner.
+#[tactic(auto, unfolding(crate::specs::Runs::run_in))]
 pub fn read_run(text: &[u8], words: &mut [u16]) -> Result<usize, NoRun>
     requires { length text.now ≤ length words.old }
     ensures { Tells (run_in text.now) result words.new }

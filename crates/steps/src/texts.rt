@@ -11,6 +11,7 @@ pub struct Found<'a> {
 }
 
 // Answers the value where the text begins with the word. Inner.
+#[tactic(auto, using(crate::proofs::TextLaws::word_tells))]
 pub fn read_word<'a>(text: &'a [u8], word: &[u8], value: usize) -> Option<Found<'a>>
     ensures { read_as result ≡ behind value word.now text.now }
 {
@@ -18,7 +19,8 @@ pub fn read_word<'a>(text: &'a [u8], word: &[u8], value: usize) -> Option<Found<
     Some(Found { value, rest })
 }
 
-// The digit that a byte says. Inner.
+// The digit that a byte says. Numbers are read by hand: the library's `parse` takes a plus sign and zeros in front, which are no numbers here. Inner.
+#[tactic(auto, using(common::proofs::ChoiceLaws::choices), unfolding(crate::specs::Texts::digit_of))]
 fn digit_of(byte: u8) -> Option<usize>
     ensures { result ≡ digit_in byte }
 {
@@ -29,6 +31,7 @@ fn digit_of(byte: u8) -> Option<usize>
 }
 
 // The digits at the front, behind a number that is read so far. Inner.
+#[tactic(auto, using(crate::proofs::TextLaws::digit_turns))]
 fn read_digits<'a>(text: &'a [u8], first: usize) -> Option<Found<'a>>
     requires { first < 32768 }
     ensures { read_as result ≡ digits_in first text.now }
@@ -53,6 +56,7 @@ fn read_digits<'a>(text: &'a [u8], first: usize) -> Option<Found<'a>>
 }
 
 // The number at the front. Inner.
+#[tactic(auto, using(common::proofs::ChoiceLaws::choices, crate::proofs::TextLaws::digit_tells), unfolding(crate::specs::Texts::number_in))]
 pub fn read_number<'a>(text: &'a [u8]) -> Option<Found<'a>>
     ensures { read_as result ≡ number_in text.now }
 {
@@ -64,6 +68,7 @@ pub fn read_number<'a>(text: &'a [u8]) -> Option<Found<'a>>
 }
 
 // The number behind a word at the front. Inner.
+#[tactic(auto, unfolding(crate::specs::Texts::counted_in))]
 pub fn read_counted<'a>(text: &'a [u8], word: &[u8]) -> Option<Found<'a>>
     ensures { read_as result ≡ counted_in word.now text.now }
 {

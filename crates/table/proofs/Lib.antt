@@ -1,14 +1,11 @@
 -- The laws of the definitions, as proofs and later crates cite them.
 pub mod EndLaws
 pub mod PassLaws
-mod PlaceLaws
 pub mod FrameLaws
 pub mod FieldLaws
-pub mod StepLaws
 pub mod ReadLaws
 pub mod TurnLaws
 pub mod ScanLaws
-pub mod CheckLaws
 pub mod ListingLaws
 pub mod GoodLaws
 pub mod SystemLaws

@@ -5,6 +5,7 @@ use Rattle.table.specs.Checking.{check_table}
 use Rattle.table.specs.declared.faults.Fault.{Fault}
 use Rattle.table.specs.declared.faults.Fault.TheVariants.{Cut, Kind, Length, Count, Field, Rising}
 use Rattle.table.specs.declared.faults.Refusal as table
+use Rattle.table.specs.declared.told.Told.{Told}
 use Rattle.table.specs.declared.checks.Shape.{Shape}
 
 -- The number of the refusal for a fault.
@@ -32,6 +33,10 @@ place_of Count at = at
 -- The refusal for a fault of the record that starts at a place. The table is input 0.
 abbrev pub refusal_of : Fault → ℕ → Refusal
 refusal_of f at = record { number = number_of f; input = 0; place = place_of f at }
+
+-- The refusal that is told.
+abbrev pub refusal_told : Told → Refusal
+refusal_told t = record { number = t.number; input = t.input; place = t.place }
 
 -- A good table's shape, or the refusal.
 pub data Answer : Type 0 where

@@ -8,6 +8,7 @@ use reader::numbers::number_at;
 use reader::records::part_of;
 
 // Bad state i. Inner: its record's bytes are there.
+#[tactic(auto, using(reader::proofs::RecordLaws::part_length), unfolding(crate::specs::Systems::bad_at))]
 pub fn bad_at(t: &[u8], s: Shape, i: usize) -> usize
     requires { 10 + 12 * s.transitions + 6 * i + 6 ≤ length t.now }
     ensures { result ≡ bad_at t.now s i }

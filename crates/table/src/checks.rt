@@ -5,7 +5,7 @@ ghost use Rattle.table.specs.Checking.{kind_number, payload_size, framed_at, kin
 use crate::faults::{Fault, Refusal};
 use crate::fields::{Header, bad_fields, entry_of, header_fields, header_of, transition_fields};
 use reader::numbers::number_at;
-use reader::reader::payload_from;
+use reader::reader::Reader;
 
 // The kinds of a table's records.
 #[derive(Clone, Copy, Debug, PartialEq, Eq)]
@@ -15,19 +15,21 @@ pub enum Kind {
     Bad,
 }
 
-impl Kind {
-    // The number that a record of the kind has.
-    pub fn number(self) -> usize
-        ensures { result ≡ kind_number self }
-    {
-        match self {
+// The number that a record of a kind has.
+impl From<Kind> for usize {
+    ghost from_gives = { λ kind number. number ≡ kind_number kind };
+
+    fn from(kind: Kind) -> usize {
+        match kind {
             Kind::Header => 1,
             Kind::Transition => 2,
             Kind::Bad => 3,
         }
     }
+}
 
-    // The size of its payload.
+impl Kind {
+    // The size of a record's payload.
     pub fn size(self) -> usize
         ensures { result ≡ payload_size self }
     {
@@ -52,112 +54,121 @@ pub struct Shape {
 }
 
 // The tests that each table record has: four bytes there, kind, length, payload there.
-fn framed_at(t: &[u8], at: usize, kind: Kind) -> Result<(), Fault>
-    requires { at ≤ length t.now }
-    ensures { result ≡ framed_at t.now at (kind_number kind) (payload_size kind) }
+#[tactic(auto, using(common::proofs::ChoiceLaws::choices), unfolding(crate::specs::Checking::framed_at))]
+fn framed_at(here: Reader, kind: Kind) -> Result<(), Fault>
+    requires { here.at ≤ length here.table.now }
+    ensures { result ≡ framed_at here.entry.table.now here.entry.at (kind_number kind) (payload_size kind) }
 {
-    if t.len() - at < 4 {
+    let left = here.table.len() - here.at;
+    if left < 4 {
         return Err(Fault::Cut);
     }
-    let found_size = number_at(t, at);
-    let found_kind = number_at(t, at + 2);
+    let found_size = number_at(here.table, here.at);
+    let found_kind = number_at(here.table, here.at + 2);
     let size = kind.size();
-    if found_kind != kind.number() {
+    if found_kind != usize::from(kind) {
         return Err(Fault::Kind);
     }
     if found_size != size {
         return Err(Fault::Length);
     }
-    if t.len() - at - 4 < size {
+    if left - 4 < size {
         return Err(Fault::Cut);
     }
     Ok(())
 }
 
 // The number of the kind of the record at a place; none where its four bytes are not there.
-fn kind_at(t: &[u8], at: usize) -> Option<usize>
-    requires { at ≤ length t.now }
-    ensures { result ≡ kind_at t.now at }
+#[tactic(auto, using(common::proofs::ChoiceLaws::choices), unfolding(crate::specs::Checking::kind_at))]
+fn kind_at(here: Reader) -> Option<usize>
+    requires { here.at ≤ length here.table.now }
+    ensures { result ≡ kind_at here.entry.table.now here.entry.at }
 {
-    if t.len() - at < 4 {
+    if here.table.len() - here.at < 4 {
         return None;
     }
-    Some(number_at(t, at + 2))
+    Some(number_at(here.table, here.at + 2))
 }
 
 // The header.
+#[tactic(auto, using(crate::proofs::FrameLaws::framed_tells), unfolding(crate::specs::Checking::read_header))]
 fn read_header(t: &[u8]) -> Result<Header, Fault>
     ensures { result ≡ read_header t.now }
 {
-    framed_at(t, 0, Kind::Header)?;
-    header_fields(header_of(payload_from(t, 0)))
+    let here = Reader::before(t, 0);
+    framed_at(here, Kind::Header)?;
+    header_fields(header_of(here.payload()))
 }
 
 // Whether a transition stands at a place where transition number count may stand, and not a bad state.
-fn transition_step(t: &[u8], h: Header, at: usize, count: usize) -> Result<bool, Fault>
-    requires { at ≤ length t.now }
-    ensures { result ≡ transition_step t.now h at count }
+#[tactic(auto, using(common::proofs::ChoiceLaws::choices, crate::proofs::FrameLaws::framed_tells), unfolding(crate::specs::Checking::transition_step))]
+fn transition_step(here: Reader, h: Header, count: usize) -> Result<bool, Fault>
+    requires { here.at ≤ length here.table.now }
+    ensures { result ≡ transition_step here.entry.table.now h here.entry.at count }
 {
-    if kind_at(t, at) == Some(Kind::Bad.number()) {
+    if kind_at(here) == Some(usize::from(Kind::Bad)) {
         return Ok(false);
     }
-    framed_at(t, at, Kind::Transition)?;
+    framed_at(here, Kind::Transition)?;
     if 1024 <= count {
         return Err(Fault::Count);
     }
-    transition_fields(h, entry_of(payload_from(t, at)))?;
+    transition_fields(h, entry_of(here.payload()))?;
     Ok(true)
 }
 
-// The transitions, from place 10 on: how many there are. No `for`: where they end is seen only at the record that stands there. The walk ends at the first bad state, or at the table's end.
+// The transitions, from place 10 on: how many there are. The walk ends at the first bad state, or at the table's end. No `for`: how many there are is answered
+// at either end, so that the count would be kept beside a `for` over places too.
 fn check_transitions(t: &[u8], h: Header) -> Result<usize, Refusal>
     ensures { result ≡ scan_transitions 1025 t.now h 0 }
 {
     let mut count: usize = 0;
-    let mut at: usize = 10;
-    while at < t.len() {
-        match transition_step(t, h, at, count) {
+    let mut here = Reader::before(t, 10);
+    while here.at < t.len() {
+        match transition_step(here, h, count) {
             Ok(true) => {
                 count += 1;
-                at += 12;
+                here.at += 12;
             }
             Ok(false) => return Ok(count),
-            Err(fault) => return Err(Refusal { fault, at }),
+            Err(fault) => return Err(Refusal { fault, at: here.at }),
         }
     }
     Ok(count)
 }
 
 // The record at a place where a bad state not below low must stand: the lowest that may follow it.
-fn bad_step(t: &[u8], states: usize, at: usize, low: usize) -> Result<usize, Fault>
-    requires { at ≤ length t.now }
-    ensures { result ≡ bad_step t.now states at low }
+#[tactic(auto, using(crate::proofs::FrameLaws::framed_tells), unfolding(crate::specs::Checking::bad_step))]
+fn bad_step(here: Reader, states: usize, low: usize) -> Result<usize, Fault>
+    requires { here.at ≤ length here.table.now }
+    ensures { result ≡ bad_step here.entry.table.now states here.entry.at low }
 {
-    framed_at(t, at, Kind::Bad)?;
-    bad_fields(number_at(payload_from(t, at), 0), states, low)
+    framed_at(here, Kind::Bad)?;
+    bad_fields(number_at(here.payload(), 0), states, low)
 }
 
-// The bad states, from a place on: how many there are. No `for`: the last bytes can be part of a record, which is a fault of their own.
+// The bad states, from a place on: how many there are. No `for`: the count and the lowest state that may follow would be kept beside a `for` over places too.
 fn check_bads(t: &[u8], states: usize, from: usize) -> Result<usize, Refusal>
     ensures { result ≡ scan_bads (length t.now) t.now states from 0 0 }
 {
     let mut count: usize = 0;
-    let mut at = from;
+    let mut here = Reader::before(t, from);
     let mut low: usize = 0;
-    while at < t.len() {
-        match bad_step(t, states, at, low) {
+    while here.at < t.len() {
+        match bad_step(here, states, low) {
             Ok(next) => {
                 count += 1;
-                at += 6;
+                here.at += 6;
                 low = next;
             }
-            Err(fault) => return Err(Refusal { fault, at }),
+            Err(fault) => return Err(Refusal { fault, at: here.at }),
         }
     }
     Ok(count)
 }
 
 // What follows a header.
+#[tactic(auto, unfolding(crate::specs::Checking::check_rest))]
 fn check_rest(t: &[u8], h: Header) -> Result<Shape, Refusal>
     ensures { result ≡ check_rest t.now h }
 {
@@ -174,6 +185,7 @@ fn check_rest(t: &[u8], h: Header) -> Result<Shape, Refusal>
 }
 
 // The table check. Any bytes are taken.
+#[tactic(auto, unfolding(crate::specs::Checking::check_table))]
 pub fn check_table(t: &[u8]) -> Result<Shape, Refusal>
     ensures { result ≡ check_table t.now }
 {

@@ -26,7 +26,8 @@ pub struct Entry {
     pub label: usize,
 }
 
-// The numbers of a header's payload. Inner: its 6 bytes are there.
+// The numbers of a header's payload. No From: it asks that the bytes are there, as `entry_of` does. Inner: its 6 bytes are there.
+#[tactic(auto, unfolding(crate::specs::Fields::header_of))]
 pub fn header_of(payload: &[u8]) -> Header
     requires { 6 ≤ length payload.now }
     ensures { result ≡ header_of payload.now }
@@ -44,6 +45,7 @@ pub fn header_of(payload: &[u8]) -> Header
 }
 
 // The numbers of a transition's payload. Inner: its 8 bytes are there.
+#[tactic(auto, unfolding(crate::specs::Fields::entry_of))]
 pub fn entry_of(payload: &[u8]) -> Entry
     requires { 8 ≤ length payload.now }
     ensures { result ≡ entry_of payload.now }
@@ -65,27 +67,19 @@ pub fn entry_of(payload: &[u8]) -> Entry
 }
 
 // The ranges of a header: 1 to 4,096 states, 1 to 4 channels, 1 to 15 messages, and a start that is a state.
+#[tactic(auto, using(common::proofs::ChoiceLaws::choices), unfolding(crate::specs::Fields::header_fields))]
 pub fn header_fields(h: Header) -> Result<Header, Fault>
     ensures { result ≡ header_fields h }
 {
-    if h.states < 1 {
+    let 1..=4096 = h.states else {
         return Err(Fault::Field(4));
-    }
-    if 4096 < h.states {
-        return Err(Fault::Field(4));
-    }
-    if h.channels < 1 {
+    };
+    let 1..=4 = h.channels else {
         return Err(Fault::Field(6));
-    }
-    if 4 < h.channels {
-        return Err(Fault::Field(6));
-    }
-    if h.messages < 1 {
+    };
+    let 1..=15 = h.messages else {
         return Err(Fault::Field(7));
-    }
-    if 15 < h.messages {
-        return Err(Fault::Field(7));
-    }
+    };
     if h.states <= h.start {
         return Err(Fault::Field(8));
     }
@@ -93,6 +87,7 @@ pub fn header_fields(h: Header) -> Result<Header, Fault>
 }
 
 // The ranges of a transition's operation, channel and message. A quiet one has channel 0 and message 0.
+#[tactic(auto, using(common::proofs::ChoiceLaws::choices), unfolding(crate::specs::Fields::operation_fields))]
 pub fn operation_fields(h: Header, e: Entry) -> Result<(), Fault>
     ensures { result ≡ operation_fields h e }
 {
@@ -118,6 +113,7 @@ pub fn operation_fields(h: Header, e: Entry) -> Result<(), Fault>
 }
 
 // The ranges of a transition: source and target are states, then its operation.
+#[tactic(auto, using(common::proofs::ChoiceLaws::choices), unfolding(crate::specs::Fields::transition_fields))]
 pub fn transition_fields(h: Header, e: Entry) -> Result<(), Fault>
     ensures { result ≡ transition_fields h e }
 {
@@ -131,6 +127,7 @@ pub fn transition_fields(h: Header, e: Entry) -> Result<(), Fault>
 }
 
 // A bad state's range, then that it is not below the lowest that may stand there. The lowest that may follow it, which is above it.
+#[tactic(auto, using(common::proofs::ChoiceLaws::choices), unfolding(crate::specs::Fields::bad_fields))]
 pub fn bad_fields(state: usize, states: usize, low: usize) -> Result<usize, Fault>
     ensures { result ≡ bad_fields state states low }
 {

@@ -7,11 +7,13 @@ pub mod checks;
 pub mod faults;
 pub mod fields;
 pub mod good;
+pub mod told;
 pub mod transitions;
 
-// What the later parts name. Public calls, which ask nothing: check_table, Table::check, Table::is_bad, Refusal::place and the conversion
-// of a Fault. The others are inner: each asks what its callers prove.
+// What the later parts name. Public calls, which ask nothing: check_table, Table::check, Table::is_bad, Refusal::place and the conversions
+// of a Fault, of a Refusal and of a Kind. The others are inner: each asks what its callers prove.
 pub use crate::checks::{Shape, check_table};
 pub use crate::faults::{Fault, Refusal};
 pub use crate::good::Table;
+pub use crate::told::Told;
 pub use crate::transitions::{Operation, Transition, source_at, transition_at};

@@ -7,7 +7,9 @@ use crate::good::Table;
 use reader::numbers::number_at;
 use reader::records::part_of;
 
-// What a transition does: nothing to the channels, a send on a channel of a message, or a receive.
+// What a transition does: nothing to the channels, a send on a channel of a message, or a receive. The two numbers have no struct of their own: the
+// functions that take both are called from a `match` on this, which has them by name. That they are in the table's range is no fact of the type:
+// `transition_at`, which docs/CONTRACTS.md names, reads any bytes.
 #[derive(Clone, Copy, Debug, PartialEq, Eq)]
 pub enum Operation {
     Quiet,
@@ -23,7 +25,8 @@ pub struct Transition {
     pub label: usize,
 }
 
-// The operation that a transition's numbers name: 0 quiet, 1 send; any other is taken as 2, receive.
+// The operation that a transition's numbers name: 0 quiet, 1 send; any other is taken as 2, receive. No TryFrom: `transition_at` cannot fail.
+#[tactic(auto, using(common::proofs::ChoiceLaws::choices), unfolding(crate::specs::Transitions::operation_from))]
 impl From<Entry> for Operation {
     ghost from_gives = { λ entry operation. operation ≡ operation_from entry };
 
@@ -42,6 +45,7 @@ impl From<Entry> for Operation {
 }
 
 // Transition i. Inner: its record's bytes are there, as they are in a good table for each of its transitions.
+#[tactic(auto, using(reader::proofs::RecordLaws::part_length), unfolding(crate::specs::Transitions::transition_at))]
 pub fn transition_at(t: &[u8], i: usize) -> Transition
     requires { 10 + 12 * i + 12 ≤ length t.now }
     ensures { result ≡ transition_at t.now i }
@@ -57,6 +61,7 @@ pub fn transition_at(t: &[u8], i: usize) -> Transition
 }
 
 // Where transition i comes from. Inner, as transition_at is.
+#[tactic(auto, using(reader::proofs::RecordLaws::part_length), unfolding(crate::specs::Transitions::transition_at, crate::specs::Fields::entry_of))]
 pub fn source_at(t: &[u8], i: usize) -> usize
     requires { 10 + 12 * i + 12 ≤ length t.now }
     ensures { result ≡ (transition_at t.now i).source }

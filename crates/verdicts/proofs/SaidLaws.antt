@@ -55,3 +55,5 @@ module _ (x : Result) (work run : List ℕ) (r : searching.Answer) (work' run' :
 
   pub left-fits : StepsFit r run'
   left-fits = (stood r d.answer).1
+
+pub ruleset first_rooms = (safe-room, refused-room, rows-full-room, atoms-full-room)

@@ -3,4 +3,4 @@
 
 pub mod telling;
 
-pub use crate::telling::write_verdict;
+pub use crate::telling::{write_refused, write_verdict};

@@ -1,4 +1,4 @@
-// What is said of a verdict. Refusals are written as numbers, as every caller sees them.
+// What is said of a verdict, and of a refusal.
 ghost use Rattle.std.specs.Prelude.{◌+◌, ◌*◌, ◌≤◌, length, Ok};
 ghost use Rattle.table.specs.Systems.{system_of};
 ghost use Rattle.wording.specs.Lines.{refused_line};
@@ -7,24 +7,22 @@ ghost use Rattle.wording.specs.Written.{Written};
 ghost use Rattle.verdicts.specs.Said.{number_in, place_in, said_by, StepsFit};
 
 use search::searches::{Refused, Verdict};
-use table::Table;
+use table::{Table, Told};
 use wording::Line;
-use wording::lines::fault_line;
 use wording::steps::unsafe_text;
 
-// Writes the line of a refusal. Inner.
-fn write_refused(out: &mut [u8], refused: Refused) -> usize
+// Writes the line of a refusal, without its input. Inner.
+#[tactic(auto, using(crate::proofs::SaidLaws::first_rooms))]
+pub fn write_refused(out: &mut [u8], refused: Refused) -> usize
     requires { 60 ≤ length out.old }
     ensures { Written out.old 0 (refused_line (number_in refused) (place_in refused)) out.new result }
 {
-    match refused {
-        Refused::Table(refusal) => fault_line(out, 0, refusal),
-        Refused::SmallWork(place) => Line::Refused { number: 7, place }.write(out, 0),
-        Refused::SmallRun(place) => Line::Refused { number: 8, place }.write(out, 0),
-    }
+    let Told { number, place, .. } = Told::from(refused);
+    Line::Refused { number, place }.write(out, 0)
 }
 
 // Writes all lines of what was found of a table. The run of an unsafe table stands in the first words of `run`. Inner.
+#[tactic(auto, using(crate::proofs::SaidLaws::first_rooms))]
 fn write_found(out: &mut [u8], table: &Table, verdict: Verdict, run: &[u16]) -> usize
     requires { StepsFit (Ok verdict) run.now × (60 + 14 * length run.now ≤ length out.old) }
     ensures { Written out.old 0 (answer_text (system_of table.now.bytes.now) (said_by (Ok verdict) run.now)) out.new result }
@@ -33,14 +31,14 @@ fn write_found(out: &mut [u8], table: &Table, verdict: Verdict, run: &[u16]) -> 
         Verdict::Safe(rows) => Line::Safe(rows).write(out, 0),
         Verdict::Unsafe { rows, steps } => unsafe_text(out, 0, table, rows, &run[..steps]),
         Verdict::RowsFull {
-            rows: _,
             row,
             transition,
+            ..
         } => Line::RowsFull { row, transition }.write(out, 0),
         Verdict::AtomsFull {
-            rows: _,
             row,
             transition,
+            ..
         } => Line::AtomsFull { row, transition }.write(out, 0),
     }
 }

@@ -90,3 +90,6 @@ refusal-room n i p a m h j k r =
     let x = long-number n h in let y = long-number i j in let z = long-number p k in
     let e = three-length refused_word n input_word i place_word p in
     let f = counted-length refused_word n in let g = counted-length input_word i in let o = counted-length place_word p in omega arith
+
+-- How long first lines are, for `grind`.
+pub ruleset line_lengths = (refused-length, refusal-room, unsafe-length)

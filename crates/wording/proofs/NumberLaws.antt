@@ -38,8 +38,8 @@ number_more zero h = absurd (omega arith)
 number_more (suc n) h =
     more n (suc n) h ∙ ap (λ (l : List ℕ). l ++ (digit (suc n % 10) ∷ [])) (enough n (suc n / 10) (suc n / 10) (omega arith) (omega arith))
 
-pub number-length-more : (n : ℕ) → 10 ≤ n → length (number_text n) ≡ length (number_text (n / 10)) + 1
-number-length-more n h = ap length (number_more n h) ∙ length-append (number_text (n / 10)) (digit (n % 10) ∷ [])
+pub number_length_more : (n : ℕ) → 10 ≤ n → length (number_text n) ≡ length (number_text (n / 10)) + 1
+number_length_more n h = ap length (number_more n h) ∙ length-append (number_text (n / 10)) (digit (n % 10) ∷ [])
 
 -- A number below 10 ^ (k + 1) has at most k + 1 digits.
 pub number_short : (k n : ℕ) → n < 10 ^ suc k → length (number_text n) ≤ suc k

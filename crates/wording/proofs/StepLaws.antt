@@ -108,3 +108,6 @@ pub unsafe-written : (S : System) (rows : ℕ) (run l : List ℕ) (a : ℕ) (m :
     → Written m b (run_lines S run) k c → Written l a (unsafe_text S rows run) k c
 unfolding unsafe_text
 unsafe-written S rows run l a m b k c x y = written_then l a (unsafe_line rows (length run)) m b (run_lines S run) k c x y
+
+-- How long the parts of a step's line are, for `grind`.
+pub ruleset step_lengths = (happened-short, word_number, move-short)

@@ -7,7 +7,7 @@ use Rattle.common.specs.Store.{put_at}
 use Rattle.common.proofs.StoreLaws.{put-none, put_one, put_then, put-length}
 use Rattle.wording.specs.Numbers.{digit, number_text}
 use Rattle.wording.specs.Written.{Written}
-use Rattle.wording.proofs.NumberLaws.{number-one, number_more}
+use Rattle.wording.proofs.NumberLaws.{number-one, number_more, number_length_more}
 
 -- Nothing, a text behind another, and a byte behind a text.
 pub written_none : (l : List ℕ) (a : ℕ) → a ≤ length l → Written l a [] l a
@@ -27,9 +27,9 @@ pub written_one : (l : List ℕ) (a x : ℕ) → a < length l → Written l a (x
 written_one l a x h = record { holds = put_one l a x h; next = refl; inside = omega arith }
 
 -- A text copied over the places from a on.
-pub written-over : (l : List ℕ) (a : ℕ) (text ys : List ℕ) → ys ≡ text → a + length text ≤ length l → Written l a text (put_mid a (a + length text - a) l ys) (a + length text)
+pub written_over : (l : List ℕ) (a : ℕ) (text ys : List ℕ) → ys ≡ text → a + length text ≤ length l → Written l a text (put_mid a (a + length text - a) l ys) (a + length text)
 unfolding put_at
-written-over l a text ys e h = record {
+written_over l a text ys e h = record {
   holds = put_mid-paste a (a + length text - a) l ys text (length text) e (omega arith) refl ∙ ap (λ (x : List ℕ). take a l ++ x ++ drop (a + length text) l) (take-length text);
   next = refl;
   inside = h;
@@ -37,25 +37,16 @@ written-over l a text ys e h = record {
 
 -- ---- a number
 
--- Of a number's digits all but the last one are written.
-pub record AllButLast (l : List ℕ) (a n : ℕ) (m : List ℕ) (b : ℕ) : Type 0 where
-  pub front : List ℕ
-  pub splits : number_text n ≡ front ++ (digit (n % 10) ∷ [])
-  pub written : Written l a front m b
-
-pub none-before : (l : List ℕ) (a n : ℕ) → n < 10 → a ≤ length l → AllButLast l a n l a
-none-before l a n h k =
+-- A number of one digit, and one of more: the last digit fits behind those before it, and ends the number.
+pub one_digit : (l : List ℕ) (a n : ℕ) → n < 10 → a + length (number_text n) ≤ length l
+    → (a < length l) × Written l a (number_text n) (set l a (digit (n % 10))) (a + 1)
+one_digit l a n h k =
     let e : n % 10 ≡ n = omega arith in
-    record { front = []; splits = number-one n h ∙ rw e; written = written_none l a k }
+    let i : a < length l = omega (arith, ap length (number-one n h)) in
+    (i, rw (number-one n h, e) (written_one l a (digit n) i))
 
-pub some-before : (l : List ℕ) (a n : ℕ) (m : List ℕ) (b : ℕ) → 10 ≤ n → Written l a (number_text (n / 10)) m b → AllButLast l a n m b
-some-before l a n m b h w = record { front = number_text (n / 10); splits = number_more n h; written = w }
-
-module _ (l : List ℕ) (a n : ℕ) (m : List ℕ) (b : ℕ) (w : AllButLast l a n m b) (h : a + length (number_text n) ≤ length l) where
-  pub last-inside : b < length m
-  last-inside =
-      let e = ap length w.splits ∙ length-append w.front (digit (n % 10) ∷ []) in
-      omega (arith, w.written.next, written-length _ _ _ _ _ w.written)
-
-  pub last-written : Written l a (number_text n) (set m b (digit (n % 10))) (b + 1)
-  last-written = rw w.splits (written_then _ _ _ _ _ _ _ _ w.written (written_one m b (digit (n % 10)) last-inside))
+pub more_digits : (l : List ℕ) (a n : ℕ) (m : List ℕ) (b : ℕ) → 10 ≤ n → Written l a (number_text (n / 10)) m b → a + length (number_text n) ≤ length l
+    → (b < length m) × Written l a (number_text n) (set m b (digit (n % 10))) (b + 1)
+more_digits l a n m b h w k =
+    let i : b < length m = omega (arith, number_length_more n h, w.next, written-length _ _ _ _ _ w) in
+    (i, rw (number_more n h) (written_then _ _ _ _ _ _ _ _ w (written_one m b (digit (n % 10)) i)))

@@ -1,12 +1,11 @@
 // The lines that the programs write.
 ghost use Rattle.std.specs.Prelude.{◌+◌, ◌≤◌, length};
-ghost use Rattle.table.specs.Answers.{number_of, place_of};
-ghost use Rattle.wording.specs.Lines.{line_of, refused_line};
-ghost use Rattle.wording.specs.Answers.{refusal_line, text_of};
+ghost use Rattle.wording.specs.Lines.{line_of};
+ghost use Rattle.wording.specs.Answers.{text_of};
 ghost use Rattle.wording.specs.Written.{Written};
 
 use crate::texts::{write_bytes, write_number};
-use table::Refusal;
+use table::Told;
 
 // A line of one of the programs; beside each, what it may look like.
 #[derive(Clone, Copy, Debug, PartialEq, Eq)]
@@ -70,6 +69,27 @@ pub enum Line {
     LongRun,
 }
 
+// The line of a refusal, with its input.
+impl From<Told> for Line {
+    ghost use Rattle.std.specs.Prelude.{◌≡◌};
+    ghost use Rattle.wording.specs.declared.lines.Line.TheVariants.{InputRefused};
+
+    ghost from_gives = { λ told line. line ≡ InputRefused told.number told.input told.place };
+
+    fn from(told: Told) -> Line {
+        let Told {
+            number,
+            input,
+            place,
+        } = told;
+        Line::InputRefused {
+            number,
+            input,
+            place,
+        }
+    }
+}
+
 // Writes a line of texts, each with a number behind it. Inner.
 pub fn write_line(out: &mut [u8], at: usize, parts: &[(&str, usize)]) -> usize
     requires { at + length (line_of parts.now) ≤ length out.old }
@@ -84,7 +104,7 @@ pub fn write_line(out: &mut [u8], at: usize, parts: &[(&str, usize)]) -> usize
 }
 
 impl Line {
-    // Writes the line. Inner.
+    // Writes the line. No `Display`: the library says of what `fmt` writes only where it answers Ok, and this clause has no such case. Inner.
     pub fn write(self, out: &mut [u8], at: usize) -> usize
         requires { at + length (text_of self) ≤ length out.old }
         ensures { Written out.old at (text_of self) out.new result }
@@ -129,29 +149,4 @@ impl Line {
             Line::LongRun => write_bytes(out, at, b"run too long\n"),
         }
     }
-}
-
-// The line of a table's refusal: at most 60 bytes. Inner.
-pub fn fault_line(out: &mut [u8], at: usize, refusal: Refusal) -> usize
-    requires { at + 60 ≤ length out.old }
-    ensures { Written out.old at (refused_line (number_of refusal.fault) (place_of refusal.fault refusal.at)) out.new result }
-{
-    let number = u64::from(refusal.fault) as usize;
-    let place = refusal.place();
-    Line::Refused { number, place }.write(out, at)
-}
-
-// The line of a refusal of an input: at most 80 bytes. Inner.
-pub fn input_fault_line(out: &mut [u8], at: usize, refusal: Refusal, input: usize) -> usize
-    requires { at + 80 ≤ length out.old }
-    ensures { Written out.old at (refusal_line (number_of refusal.fault) input (place_of refusal.fault refusal.at)) out.new result }
-{
-    let number = u64::from(refusal.fault) as usize;
-    let place = refusal.place();
-    Line::InputRefused {
-        number,
-        input,
-        place,
-    }
-    .write(out, at)
 }

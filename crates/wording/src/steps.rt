@@ -26,6 +26,7 @@ fn happened(gone: bool, operation: Operation) -> &'static [u8]
 }
 
 // Writes the same of a step's transition; nothing of one that is not there. Inner.
+#[tactic(auto, using(crate::proofs::StepLaws::step_lengths))]
 fn write_move(out: &mut [u8], at: usize, table: &Table, step: Step) -> usize
     requires { at + 8 ≤ length out.old }
     ensures { Written out.old at (happened_to step.lost (get_elem? (system_of table.now.bytes.now).moves step.transition)) out.new result }
@@ -38,6 +39,7 @@ fn write_move(out: &mut [u8], at: usize, table: &Table, step: Step) -> usize
 }
 
 // Writes the line of a step: at most 14 bytes. Inner.
+#[tactic(auto, using(crate::proofs::StepLaws::step_lengths))]
 pub fn step_line(out: &mut [u8], at: usize, table: &Table, word: u16) -> usize
     requires { at + 14 ≤ length out.old }
     ensures { Written out.old at (step_line (system_of table.now.bytes.now) word) out.new result }
@@ -61,6 +63,7 @@ pub fn run_lines(out: &mut [u8], at: usize, table: &Table, run: &[u16]) -> usize
 }
 
 // Writes all that is said of an unsafe table: its first line, of at most 60 bytes, and a line for each word of the run. Inner.
+#[tactic(auto, using(crate::proofs::LineLaws::line_lengths))]
 pub fn unsafe_text(out: &mut [u8], at: usize, table: &Table, rows: usize, run: &[u16]) -> usize
     requires { at + 60 + 14 * length run.now ≤ length out.old }
     ensures { Written out.old at (unsafe_text (system_of table.now.bytes.now) rows run.now) out.new result }

@@ -5,6 +5,7 @@ ghost use Rattle.wording.specs.Numbers.{number_text};
 ghost use Rattle.wording.specs.Written.{Written};
 
 // Writes a text as it is. Inner.
+#[tactic(auto, using(crate::proofs::WrittenLaws::written_over))]
 pub fn write_bytes(out: &mut [u8], at: usize, text: &[u8]) -> usize
     requires { at + length text.now ≤ length out.old }
     ensures { Written out.old at text.now out.new result }
@@ -16,6 +17,7 @@ pub fn write_bytes(out: &mut [u8], at: usize, text: &[u8]) -> usize
 
 // Writes a number in decimal digits, the last one behind those before it. Not by `write!`: the library says of its text only where it answers
 // Ok, and writing here cannot fail. Inner.
+#[tactic(auto, using(crate::proofs::NumberLaws::number_length_more))]
 pub fn write_number(out: &mut [u8], at: usize, n: usize) -> usize
     requires { at + length (number_text n) ≤ length out.old }
     ensures { Written out.old at (number_text n) out.new result }

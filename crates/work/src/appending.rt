@@ -9,7 +9,7 @@ use crate::places::{CHANNEL, CHANNELS, HEAD, ROW, count_place};
 use crate::writing::{Head, write_channel, write_head};
 use rows::Outcome;
 
-// Writes row 0: the start with empty products, made from no row by no transition. Inner.
+// Writes row 0: the start with empty products, made from no row by no transition, so with 65,535 in both words, as C's callers read them. Inner.
 pub fn start_row(w: &mut [u16], state: u16)
     requires { 103 ≤ length w.old }
     ensures { w.new ≡ front (all_words (start_stored state ∷ [])) w.old }

@@ -1,4 +1,5 @@
-// The words of a row, read where they stand. All functions here are inner.
+// The words of a row, read where they stand. All functions here are inner. Words and number stay two parameters, and the first three words have a function
+// each and no struct: the look over rows needs the state alone, and each function asks for its own words; the writer's Row stands over them.
 ghost use Rattle.std.specs.Prelude.{◌≡◌, ◌+◌, ◌*◌, ◌<◌, ◌≤◌, length, get_or};
 ghost use Rattle.common.specs.Part.{part};
 ghost use Rattle.work.specs.Layout.{atoms_place, count_place};

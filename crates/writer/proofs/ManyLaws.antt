@@ -1,10 +1,37 @@
--- Things written one after the other, each as its bytes.
-use Rattle.std.proofs.Common.{◌≡◌, refl, sym, ap, ◌∙◌, List, [], ◌∷◌, ◌++◌, ℕ, zero, suc, ◌+◌, ◌-◌, ◌<◌, ◌≤◌, arith, length, length-append}
+-- Bytes written one behind the other: those of two things, and those of the first so many.
+use Rattle.std.proofs.Common.{◌≡◌, refl, sym, subst, ap, ◌∙◌, List, [], ◌∷◌, ◌++◌, ℕ, zero, suc, ◌+◌, ◌-◌, ◌<◌, ◌≤◌, arith, length, length-append}
+use Rattle.common.specs.Front.{front}
 use Rattle.common.specs.Store.{put_at}
-use Rattle.common.proofs.StoreLaws.{put-none, put_then, put-length}
+use Rattle.common.proofs.StoreLaws.{put-none, put_then, put-length, put_first}
 use Rattle.table.specs.Listing.{listed}
 use Rattle.lists.specs.Format.{joined}
 use Rattle.lists.proofs.JoinLaws.{joined_snoc}
+use Rattle.writer.specs.Placing.{RoomFor, Placed}
+use Rattle.writer.specs.declared.placing.Placing.{Placing}
+
+-- ---- two, one behind the other
+
+-- Where there is room for both, there is for the first, and behind it for the second.
+pub room-first : (xs ys : List ℕ) (p : Placing) → RoomFor (xs ++ ys) p → RoomFor xs p
+room-first xs ys p h = omega (arith, length-append xs ys)
+
+module _ {xs : List ℕ} {p q : Placing} (a : Placed xs p q) where
+  pub placed-length : length q.list.now ≡ length p.list.now
+  placed-length = ap length a.holds ∙ put-length p.list.now p.at xs (omega (arith, a.place, a.inside))
+
+  pub room-then : (ys : List ℕ) → RoomFor (xs ++ ys) p → RoomFor ys q
+  room-then ys h = omega (arith, a.place, placed-length, length-append xs ys)
+
+  pub placed-then : {ys : List ℕ} {r : Placing} → Placed ys q r → Placed (xs ++ ys) p r
+  placed-then {ys} {r} b =
+      record {
+        same_list = b.same_list ∙ a.same_list;
+        place = omega (arith, a.place, b.place, length-append xs ys);
+        inside = omega (arith, b.inside, placed-length);
+        holds = b.holds ∙ ap (λ (l : List ℕ). put_at l q.at ys) a.holds ∙ put_then p.list.now p.at xs q.at ys (sym a.place) a.inside;
+      }
+
+-- ---- the first so many
 
 pub listed-snoc : {A : Type 0} (f : ℕ → A) (k i : ℕ) → listed f (k + 1) i ≡ listed f k i ++ (f (i + k) ∷ [])
 unfolding listed
@@ -41,32 +68,22 @@ module _ {A : Type 0} (bytes : A → List ℕ) (f : ℕ → A) where
   pub up_fits : (k n : ℕ) → k < n → length (up_to k) + length (bytes (f k)) ≤ length (up_to n)
   up_fits k n h = omega (arith, up-length k, up-grows (k + 1) n (omega arith))
 
-  -- Of n things the first k are written, from place a on; the next goes to another place.
-  pub record Placing (old : List ℕ) (a n : ℕ) (new : List ℕ) (k to : ℕ) : Type 0 where
-    pub high : k ≤ n
-    pub place : to ≡ a + length (up_to k)
-    pub same : length new ≡ length old
-    pub holds : new ≡ put_at old a (up_to k)
-
-  pub placing-starts : (old : List ℕ) (a n to : ℕ) → to ≡ a → Placing old a n old 0 to
+  -- Where there is room for any bytes, none are written.
+  pub many-none : (ys : List ℕ) (p : Placing) → RoomFor ys p → Placed (up_to 0) p p
   unfolding joined listed
-  placing-starts old a n to e = record { high = omega arith; place = omega arith; same = refl; holds = put-none old a }
+  many-none ys p h = record { same_list = refl; place = omega arith; inside = omega arith; holds = put-none p.list.now p.at }
 
-  module _ {old : List ℕ} {a n : ℕ} {new : List ℕ} {k to : ℕ} (w : Placing old a n new k to) where
-    -- There is room for the next.
-    pub placing-room : k < n → a + length (up_to n) ≤ length old → to + length (bytes (f k)) ≤ length new
-    placing-room l m = omega (arith, w.place, w.same, up_fits k n l)
+  -- Where the first k of n are written, there is room for the next, and with it the first k + 1 are.
+  module _ {k : ℕ} {p q : Placing} (w : Placed (up_to k) p q) where
+    pub many-room : (n : ℕ) → k < n → RoomFor (up_to n) p → RoomFor (bytes (f k)) q
+    many-room n l h = omega (arith, w.place, placed-length w, up_fits k n l)
 
-    pub placing-on : k < n → a + length (up_to n) ≤ length old → (newer : List ℕ) (next : ℕ) → next ≡ to + length (bytes (f k))
-        → newer ≡ put_at new to (bytes (f k)) → Placing old a n newer (k + 1) next
-    placing-on l m newer next d e =
-        record {
-          high = omega arith;
-          place = omega (arith, w.place, up-length k);
-          same = ap length e ∙ put-length new to (bytes (f k)) (placing-room l m) ∙ w.same;
-          holds = e ∙ ap (λ (x : List ℕ). put_at x to (bytes (f k))) w.holds
-              ∙ put_then old a (up_to k) to (bytes (f k)) (sym w.place) (omega (arith, w.place, up-grows k n w.high)) ∙ ap (put_at old a) (sym (up_next k));
-        }
+    pub many-on : {r : Placing} → Placed (bytes (f k)) q r → Placed (up_to (k + 1)) p r
+    many-on {r} b = subst (λ (x : List ℕ). Placed x p r) (sym (up_next k)) (placed-then w b)
 
-    pub placing-ends : n ≤ k → new ≡ put_at old a (up_to n)
-    placing-ends l = let z : k ≡ n = omega (arith, w.high) in w.holds ∙ ap (λ (j : ℕ). put_at old a (up_to j)) z
+    pub many-all : (n : ℕ) → k ≡ n → Placed (up_to n) p q
+    many-all n e = subst (λ (j : ℕ). Placed (up_to j) p q) e w
+
+-- From the first place on.
+pub placed-first : {xs : List ℕ} {p q : Placing} → Placed xs p q → p.at ≡ 0 → q.list.now ≡ front xs p.list.now
+placed-first {xs} {p} {q} a z = a.holds ∙ ap (λ (i : ℕ). put_at p.list.now i xs) z ∙ put_first p.list.now xs

@@ -48,17 +48,17 @@ row-length n r =
 
 -- ---- the bytes of a payload, channel by channel
 
-pub record Sizing (n : ℕ) (w : List ℕ) (i c size : ℕ) : Type 0 where
+pub record Sizing (n : ℕ) (w : List ℕ) (i c atoms : ℕ) : Type 0 where
   pub high : c ≤ n
-  pub is : size ≡ 2 + length (up_to product_bytes (product_in w i) c)
-  pub few : size ≤ 2 + 49 * c
+  pub is : c + 2 * atoms ≡ length (up_to product_bytes (product_in w i) c)
+  pub few : atoms ≤ 24 * c
 
-pub sizing-starts : (n : ℕ) (w : List ℕ) (i : ℕ) → Sizing n w i 0 2
+pub sizing-starts : (n : ℕ) (w : List ℕ) (i : ℕ) → Sizing n w i 0 0
 unfolding joined listed
 sizing-starts n w i = record { high = omega arith; is = refl; few = omega arith }
 
-module _ {n : ℕ} {w : List ℕ} {i c size : ℕ} (z : Sizing n w i c size) where
-  pub sizing-on : Writable n w i → c < n → (count : ℕ) → count ≡ count_in w i c → Sizing n w i (c + 1) (size + (1 + 2 * count))
+module _ {n : ℕ} {w : List ℕ} {i c atoms : ℕ} (z : Sizing n w i c atoms) where
+  pub sizing-on : Writable n w i → c < n → (count : ℕ) → count ≡ count_in w i c → Sizing n w i (c + 1) (atoms + count)
   sizing-on h l count e =
       record {
         high = omega arith;
@@ -66,11 +66,8 @@ module _ {n : ℕ} {w : List ℕ} {i c size : ℕ} (z : Sizing n w i c size) whe
         few = omega (arith, z.few, h.counts_fit c l);
       }
 
-  pub sizing-ends : n ≤ c → size ≡ length (payload_bytes n (row_in n w i))
-  sizing-ends l = let e : c ≡ n = omega (arith, z.high) in z.is ∙ ap (λ (k : ℕ). 2 + length (up_to product_bytes (product_in w i) k)) e ∙ sym (payload-length n w i)
-
-  pub sizing-few : n ≤ 4 → size ≤ 198
-  sizing-few l = omega (arith, z.few, z.high)
+  pub sizing-ends : n ≤ c → 2 + n + 2 * atoms ≡ length (payload_bytes n (row_in n w i))
+  sizing-ends l = let e : c ≡ n = omega (arith, z.high) in omega (arith, rw e at z.is, payload-length n w i)
 
 -- ---- the bytes of a list, row by row
 

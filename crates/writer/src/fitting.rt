@@ -2,9 +2,9 @@
 ghost use Rattle.std.specs.Prelude.{◌≡◌, ◌+◌, ◌*◌, ◌<◌, ◌≤◌, length};
 ghost use Rattle.writer.specs.Fitting.{all_pass, first_not, channel_passes, row_passes};
 
-use crate::words::Row;
+use crate::words::{Row, Rows};
 use atoms::masks::all_atoms;
-use table::Table;
+use table::Shape;
 
 // The count of channel c is at most 24, and its words are atoms. Inner.
 fn channel_passes(row: &Row, c: usize, messages: usize) -> bool
@@ -25,18 +25,19 @@ fn channels_pass(row: &Row, channels: usize, messages: usize) -> bool
     (0..channels).all(|c| channel_passes(row, c, messages))
 }
 
-// The row can be written for the table. Inner.
-fn row_passes(row: &Row, table: &Table) -> bool
-    ensures { result ≡ row_passes table.now.shape row.now.work.now row.now.number }
+// The row can be written for a table of that shape. Inner.
+fn row_passes(row: &Row, s: Shape) -> bool
+    requires { (s.channels ≤ 4) × (s.messages ≤ 15) }
+    ensures { result ≡ row_passes s row.now.work.now row.now.number }
 {
-    let s = table.shape;
     row.state() < s.states && channels_pass(row, s.channels, s.messages)
 }
 
-// The lowest of the first rows that cannot be written. Inner.
-pub fn first_unfit(work: &[u16], rows: usize, table: &Table) -> Option<usize>
-    requires { 103 * rows ≤ length work.now }
-    ensures { result ≡ first_not (row_passes table.now.shape work.now) rows 0 }
+// The lowest of the rows that cannot be written for a table of that shape. It takes any shape within the limits, and no Table, which would ask for its
+// bytes too. Inner.
+pub fn first_unfit(rows: &Rows, s: Shape) -> Option<usize>
+    requires { (s.channels ≤ 4) × (s.messages ≤ 15) }
+    ensures { result ≡ first_not (row_passes s rows.now.work.now) rows.now.count 0 }
 {
-    (0..rows).find(|i| !row_passes(&Row::at(work, *i), table))
+    (0..rows.count).find(|i| !row_passes(&rows.row(*i), s))
 }

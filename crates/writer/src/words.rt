@@ -1,6 +1,7 @@
-// A row of a work table, read where it stands. All functions here are inner.
+// Rows of a work table, read where they stand. All functions here are inner. They are not the WorkRows of crate outcome, whose type has that no product is
+// over 24 atoms: that is what is tested here.
 ghost use Rattle.std.specs.Prelude.{◌≡◌, ◌+◌, ◌*◌, ◌<◌, ◌≤◌, length, get_or};
-ghost use Rattle.writer.specs.Words.{count_in, product_in, Writable};
+ghost use Rattle.writer.specs.Words.{count_in, product_in, Writable, AllWritable};
 
 use work::reading::{count_of, product_of, state_of};
 
@@ -13,14 +14,6 @@ pub struct Row<'a> {
 }
 
 impl<'a> Row<'a> {
-    // Row i of a work table.
-    pub fn at(work: &'a [u16], i: usize) -> Row<'a>
-        requires { 103 * i + 103 ≤ length work.now }
-        ensures { (result.work.now ≡ work.now) × (result.number ≡ i) }
-    {
-        Row { work, number: i }
-    }
-
     // The row's state.
     pub fn state(&self) -> usize
         ensures { result ≡ get_or self.now.work.now (103 * self.now.number) 0 }
@@ -52,4 +45,47 @@ pub struct FitRow<'a> {
     pub channels: usize,
     pub ghost few: { channels ≤ 4 },
     pub ghost fits: { Writable channels row.work.now row.number },
+}
+
+// The first rows of a work table. Their words are there.
+#[derive(Clone, Copy)]
+pub struct Rows<'a> {
+    pub work: &'a [u16],
+    pub count: usize,
+    pub ghost there: { 103 * count ≤ length work.now },
+}
+
+impl<'a> Rows<'a> {
+    // Row i.
+    pub fn row(&self, i: usize) -> Row<'a>
+        requires { i < self.now.count }
+        ensures { (result.work.now ≡ self.now.work.now) × (result.number ≡ i) }
+    {
+        Row {
+            work: self.work,
+            number: i,
+        }
+    }
+}
+
+// Rows that can be written for so many channels.
+#[derive(Clone, Copy)]
+pub struct FitRows<'a> {
+    pub rows: Rows<'a>,
+    pub channels: usize,
+    pub ghost few: { channels ≤ 4 },
+    pub ghost fits: { AllWritable channels rows.work.now rows.count },
+}
+
+impl<'a> FitRows<'a> {
+    // Row i.
+    pub fn row(&self, i: usize) -> FitRow<'a>
+        requires { i < self.now.rows.count }
+        ensures { (result.row.work.now ≡ self.now.rows.work.now) × (result.row.number ≡ i) × (result.channels ≡ self.now.channels) }
+    {
+        FitRow {
+            row: self.rows.row(i),
+            channels: self.channels,
+        }
+    }
 }

@@ -1,11 +1,10 @@
-use Rattle.std.proofs.lemmas.Result.{err_from_is_err_and}
+use Rattle.common.proofs.ResultLaws.{left_err}
 use Rattle.judge.proofs.AnswerLaws.{judges-refused, judges-good}
 use Rattle.judge.proofs.judging.judge.Goals as goal
 
 pub returns-in_err-table : goal.returns-in_err-table
 returns-in_err-table c =
-    let p = err_from_is_err_and c.from_residual.result c.from_residual.ensures.1 in
-    rw (p.1, p.2) (judges-refused _ _ _ c.in_err-table.ensures.answer)
+    rw (left_err _ c.from_residual.ensures.1) (judges-refused _ _ _ c.in_err-table.ensures.answer)
 
 pub returns : goal.returns
 returns c =

@@ -1,33 +1,30 @@
-use Rattle.std.proofs.Common.{arith, sym, refl, length-take-le}
+use Rattle.std.proofs.Common.{refl}
 use Rattle.table.proofs.GoodLaws.{ranges}
-use Rattle.judge.proofs.AnswerLaws.{list-refused, list-sized, list-states, list-judged}
+use Rattle.judge.proofs.AnswerLaws.{list-refused, list-few, list-taken, list-sized, list-judged}
 use Rattle.judge.proofs.judging.judge_list.Goals as goal
 
-pub read_list-requires : goal.read_list-requires
-read_list-requires c =
+pub read_list-requires-clause-channels_bound : goal.read_list-requires-clause-channels_bound
+read_list-requires-clause-channels_bound c =
     let r = ranges _ _ c.args.table.now.good in
-    record {
-      channels_bound = (r.channels, r.messages);
-      in_bounds = (omega arith, omega arith, omega arith);
-    }
+    (r.channels, r.messages)
 
 pub returns-in-Err : goal.returns-in-Err
 returns-in-Err c = list-refused _ _ _ c.read_list.ensures.value _ _ c.in-Err.is
 
+pub invariant_of-products : goal.invariant_of-products
+invariant_of-products c =
+    let e = c.read_list.ensures in
+    record { sized = list-sized _ _ _ e.value _ _ e.list_told _ c.in-Ok.is (ranges _ _ c.args.table.now.good).channels }
+
+pub shared_ref_as_front-rows : goal.shared_ref_as_front-rows
+shared_ref_as_front-rows c =
+    let e = c.read_list.ensures in
+    list-few _ _ _ e.value _ _ e.list_told _ c.in-Ok.is
+
 pub slice_bounds-rows-end : goal.slice_bounds-rows-end
 slice_bounds-rows-end c =
     let e = c.read_list.ensures in
-    list-states _ _ _ e.value _ _ e.list_told _ c.in-Ok.is
-
-pub slice_bounds-rows-end-in-Ok : goal.slice_bounds-rows-end-in-Ok
-slice_bounds-rows-end-in-Ok c =
-    let e = c.read_list.ensures in
-    sym (length-take-le c.in-Ok.count c.read_list.new.states (list-states _ _ _ e.value _ _ e.list_told _ c.in-Ok.is))
-
-pub invariant_of-rows : goal.invariant_of-rows
-invariant_of-rows c =
-    let e = c.read_list.ensures in
-    record { sized = list-sized _ _ _ e.value _ _ e.list_told _ c.in-Ok.is (ranges _ _ c.args.table.now.good).channels }
+    list-taken _ _ _ e.value _ _ e.list_told _ c.in-Ok.is
 
 pub returns-in-Ok : goal.returns-in-Ok
 returns-in-Ok c =

@@ -1,8 +1,8 @@
 -- The invariant: the rows that are read are stored, and what is left is what is to be read from here.
 use Rattle.std.proofs.Common.{◌≡◌, Result, Ok, Err, MatchResult, IsErrAnd, ◌∙◌, sym, arith, rules}
-use Rattle.std.proofs.lemmas.Result.{err_from_is_err_and}
+use Rattle.common.proofs.ResultLaws.{left_err}
 use Rattle.lists.specs.Steps.{RowTold}
-use Rattle.lists.proofs.ListLaws.{rows_start, rows_on, rows-fail, rows-good, rows-loaded, loaded-first}
+use Rattle.lists.proofs.ListLaws.{rows_on, rows-fail, rows-good, rows-loaded, loaded-first}
 use Rattle.lists.proofs.reading.read_list.Goals as goal
 
 -- What `map_err` passes on as it was.
@@ -14,21 +14,12 @@ err_before : {T E D : Type 0} (P : E → D → Type 0) (a : Result T E) {b : Res
 err_before P (Ok x) y h e = absurd (let z : ◌≡◌ {A = Result _ _} (Ok x) (Err y) = sym h ∙ e in cc)
 err_before P (Err d) y h e = (d, cc, rw e at h)
 
-pub loop-at-init : goal.loop-at-init
-loop-at-init c = rows_start _ _ _ c.args.starts.now _ (omega arith) (omega arith) (omega arith) (omega arith) (omega arith)
-
 pub returns-in_err-next-clause-value : goal.returns-in_err-next-clause-value
 unfolding RowTold
 returns-in_err-next-clause-value c =
-    let p = err_from_is_err_and c.from_residual.result c.from_residual.ensures.1 in
     let q = err_before _ c.read_row-row.result c.in_err-next.field-0.0 c.map_err.ensures.cases (c.in_err-next.was) in
     let r : c.in_err-next.field-0.0 ≡ record { fault = q.0; at = c.loop-at.at } = search rules in
-    rw (p.1, p.2, r) (rows-fail c.loop-at.invariant (omega arith) q.0 (rw q.1 at c.read_row-row.ensures))
-
-pub loop-at-smaller : goal.loop-at-smaller
-unfolding RowTold
-loop-at-smaller c =
-    let r = rw (ok_before _ c.read_row-row.result c.in_ok-next.next c.map_err.ensures.cases (c.in_ok-next.was)) at c.read_row-row.ensures in omega (arith, r.onward)
+    rw (left_err _ c.from_residual.ensures.1, r) (rows-fail c.loop-at.invariant (omega arith) q.0 (rw q.1 at c.read_row-row.ensures))
 
 pub loop-at-preserved : goal.loop-at-preserved
 unfolding RowTold

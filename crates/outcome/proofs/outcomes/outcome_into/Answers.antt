@@ -1,12 +1,6 @@
-use Rattle.std.proofs.Common.{arith, Some, None}
+use Rattle.std.proofs.Common.{Some, None}
 use Rattle.outcome.proofs.ChangeLaws.{outcome-quiet, outcome-sent, outcome-received}
 use Rattle.outcome.proofs.outcomes.outcome_into.Goals as goal
-
-pub sent_into-count-requires-clause-lengths : goal.sent_into-count-requires-clause-lengths
-sent_into-count-requires-clause-lengths c = (c.product.ensures.few, omega arith)
-
-pub received_into-requires : goal.received_into-requires
-received_into-requires c = (c.product-in-Receive.ensures.few, omega arith, (rw c.in-Receive.is at c.requires.ranged).1)
 
 pub returns-in_err-count-in-Receive-clause-buffer_after : goal.returns-in_err-count-in-Receive-clause-buffer_after
 returns-in_err-count-in-Receive-clause-buffer_after c =

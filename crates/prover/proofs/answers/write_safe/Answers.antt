@@ -1,9 +1,6 @@
 use Rattle.std.proofs.Common.{arith}
-use Rattle.prover.proofs.OutputLaws.{safe-room, safe-next, safe-listed}
+use Rattle.prover.proofs.OutputLaws.{safe-next, safe-listed}
 use Rattle.prover.proofs.answers.write_safe.Goals as goal
-
-pub write-next-requires : goal.write-next-requires
-write-next-requires c = safe-room _ _ (omega arith) (omega arith)
 
 pub write_listed-requires : goal.write_listed-requires
 write_listed-requires c = safe-next _ _ _ _ _ (omega arith) (omega arith) c.write-next.ensures

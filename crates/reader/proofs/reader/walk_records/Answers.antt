@@ -1,7 +1,7 @@
 -- The invariant: what the walk finds from here is what it finds from the start.
 use Rattle.std.proofs.Common.{◌≡◌, Option, Some, None, Result, Err, refl, sym, ◌∙◌, arith}
 use Rattle.std.specs.Option.{ok_or}
-use Rattle.std.proofs.lemmas.Result.{err_from_is_err_and}
+use Rattle.common.proofs.ResultLaws.{left_err}
 use Rattle.reader.proofs.RecordLaws.{whole-at}
 use Rattle.reader.proofs.WalkLaws.{walk_start, walk-done, walk-cut, walk-next}
 use Rattle.reader.proofs.reader.walk_records.Goals as goal
@@ -11,22 +11,23 @@ nothing : {A E : Type 0} (o : Option A) {d e : E} → ◌≡◌ {A = Result A E}
 nothing None h = (refl, cc)
 nothing (Some x) h = absurd (cc)
 
-pub loop-at-init : goal.loop-at-init
-loop-at-init c = walk_start _
+pub loop-here-init : goal.loop-here-init
+loop-here-init c = rw (c.before-here.ensures.1) (record { same_table = cc; walked = walk_start _ })
 
 pub returns-in_err-record : goal.returns-in_err-record
 returns-in_err-record c =
-    let p = err_from_is_err_and c.from_residual.result c.from_residual.ensures.1 in
-    let n = nothing c.record_from.result c.in_err-record.ensures.value in
-    rw (p.1, p.2, n.1) (walk-cut _ c.loop-at.invariant (omega arith) (n.0 ∙ c.record_from.ensures))
+    let n = nothing c.record.result c.in_err-record.ensures.value in
+    rw (left_err _ c.from_residual.ensures.1, n.1) (walk-cut _ c.loop-here.invariant.walked (omega arith) (n.0 ∙ rw c.loop-here.invariant.same_table at c.record.ensures))
 
-pub loop-at-smaller : goal.loop-at-smaller
-loop-at-smaller c = omega (arith, whole-at _ _ _ (sym c.in_ok-record.ensures.ok_part ∙ c.record_from.ensures))
+pub loop-here-smaller : goal.loop-here-smaller
+loop-here-smaller c = omega (arith, whole-at _ _ _ (sym c.in_ok-record.ensures.ok_part ∙ rw c.loop-here.invariant.same_table at c.record.ensures))
 
-pub loop-at-preserved : goal.loop-at-preserved
-loop-at-preserved c =
-    walk-next _ c.loop-at.invariant (omega arith) c.in_ok-record.record
-    (sym c.in_ok-record.ensures.ok_part ∙ c.record_from.ensures)
+pub loop-here-preserved : goal.loop-here-preserved
+loop-here-preserved c = record {
+  same_table = c.loop-here.invariant.same_table;
+  walked = walk-next _ c.loop-here.invariant.walked (omega arith) c.in_ok-record.record
+      (sym c.in_ok-record.ensures.ok_part ∙ rw c.loop-here.invariant.same_table at c.record.ensures);
+}
 
 pub returns : goal.returns
-returns c = walk-done _ c.loop-at.invariant (omega arith)
+returns c = walk-done _ c.loop-here.invariant.walked (omega arith)

@@ -1,14 +1,7 @@
 -- The transition of that number, where the table has it, is the move that is told.
-use Rattle.std.proofs.Common.{ap, length, arith}
-use Rattle.table.specs.Transitions.{operation_of}
-use Rattle.wording.proofs.StepLaws.{happened-short, move-told, move-absent}
+use Rattle.std.proofs.Common.{arith}
+use Rattle.wording.proofs.StepLaws.{move-told, move-absent}
 use Rattle.wording.proofs.steps.write_move.Goals as goal
-
-pub write_bytes-requires : goal.write_bytes-requires
-write_bytes-requires c =
-    let k = happened-short c.args.step.lost (operation_of c.transition-operation.result.operation) in
-    let e = ap length c.happened.ensures in
-    omega arith
 
 pub returns-then-step-table : goal.returns-then-step-table
 returns-then-step-table c =

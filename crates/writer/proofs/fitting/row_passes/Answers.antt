@@ -1,12 +1,8 @@
 use Rattle.std.proofs.Common.{arith, le-ltb}
 use Rattle.common.proofs.ChoiceLaws.{lt-else}
-use Rattle.table.proofs.GoodLaws.{ranges}
 use Rattle.writer.specs.Fitting.{row_passes}
 use Rattle.writer.proofs.FitLaws.{row-passes}
 use Rattle.writer.proofs.fitting.row_passes.Goals as goal
-
-pub channels_pass-requires : goal.channels_pass-requires
-channels_pass-requires c = let h = ranges _ _ c.args.table.now.good in (h.channels, h.messages)
 
 pub returns-then-state-s : goal.returns-then-state-s
 returns-then-state-s c = row-passes _ _ _ _ _ c.state.ensures (omega arith) c.channels_pass.ensures

@@ -3,4 +3,4 @@ use Rattle.replay.proofs.QueueLaws.{done-send}
 use Rattle.replay.proofs.queues.Memory.send.Goals as goal
 
 pub returns : goal.returns
-returns c = done-send _ _ _ _ c.requires.0 c.requires.2
+returns c = done-send _ _ _ c.requires.0 c.requires.2

@@ -1,5 +1,0 @@
-use Rattle.lists.proofs.AtomLaws.{AtomsAt}
-use Rattle.lists.proofs.products.read_atoms.Given as goal
-
-abbrev pub invariant-loop-k : goal.invariant-loop-k
-invariant-loop-k l = AtomsAt l.f l.list l.from l.count l.used l.initial.atoms l.atoms l.k
