@@ -4,6 +4,7 @@ pub mod OutcomeLaws
 pub mod StateLaws
 pub mod MoveLaws
 pub mod FirstLaws
+pub mod RepeatLaws
 pub mod OpenLaws
 pub mod JudgingLaws
 pub mod MemoryLaws

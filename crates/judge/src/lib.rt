@@ -7,6 +7,7 @@ pub mod judging;
 pub mod memory;
 pub mod moves;
 pub mod outcomes;
+pub mod repeats;
 pub mod states;
 
 // What the later parts name.

@@ -1,12 +1,14 @@
 // The moves of a list's rows: each outcome is impossible or inside one row, or the lowest row and its lowest move for which it is not. All
 // functions here are inner.
-ghost use Rattle.std.specs.Prelude.{◌≡◌, ◌<◌, ◌≤◌, length, get_or, not};
+ghost use Rattle.std.specs.Prelude.{◌≡◌, ◌<◌, ◌≤◌, ◌&&◌, not, nat_eq, length, get_or};
 ghost use Rattle.meaning.specs.Systems.{Ranged};
 ghost use Rattle.table.specs.Transitions.{operation_of, move_of, transition_at};
 ghost use Rattle.judge.specs.Moves.{settled_at, first_open, first_open_row};
+ghost use Rattle.judge.specs.Repeats.{Sources};
 
 use crate::memory::{Listed, Rows};
 use crate::outcomes::outcome_into;
+use crate::repeats::sources_of;
 use rows::{Outcome, Rows as _, is_covered};
 use table::Transition;
 
@@ -41,32 +43,59 @@ pub struct Open {
     pub transition: usize,
 }
 
-impl Listed<'_> {
-    // The outcome of transition j from row i, which is in that state, is neither.
+// A table and rows of a list, with where the transitions come from whose moves are looked at.
+#[derive(Clone, Copy)]
+struct Look<'a> {
+    listed: &'a Listed<'a>,
+    sources: &'a [u16; 1024],
+    ghost told: { Sources listed.now.table.now.bytes.now listed.now.table.now.shape.transitions sources.now },
+}
+
+impl Look<'_> {
+    // The outcome of transition j from row i, which is in that state, is neither, and j is not passed by for an earlier one with its move.
     fn is_open(&self, i: usize, state: usize, j: usize) -> bool
-        requires in_bounds { (i < length self.now.rows.now.states.now) × (j < self.now.table.now.shape.transitions) }
-        requires in_state { get_or self.now.rows.now.states.now i 0 ≡ state }
-        ensures { result ≡ not (settled_at self.now.rows.now i (move_of (transition_at self.now.table.now.bytes.now j))) }
+        requires in_bounds { (i < length self.now.listed.now.rows.now.states.now) × (j < self.now.listed.now.table.now.shape.transitions) }
+        requires in_state { get_or self.now.listed.now.rows.now.states.now i 0 ≡ state }
+        ensures { result ≡ (not (nat_eq (get_or self.now.sources.now j 0) 4096) && not (settled_at self.now.listed.now.rows.now i (move_of (transition_at self.now.listed.now.table.now.bytes.now j)))) }
     {
-        self.table.source(j) == state && !is_settled(self.rows, i, self.table.transition(j))
+        let source = usize::from(self.sources[j]);
+        if source != state {
+            return false;
+        }
+        let listed = self.listed;
+        source != 4096 && !is_settled(listed.rows, i, listed.table.transition(j))
     }
 
-    // The lowest transition whose outcome from row i is neither.
+    // The lowest transition whose outcome from row i is neither: it has the move of no earlier one, whose outcome would be the same.
     fn open_move(&self, i: usize) -> Option<usize>
-        requires { i < length self.now.rows.now.states.now }
-        ensures { result ≡ first_open self.now.table.now.bytes.now self.now.table.now.shape self.now.rows.now i self.now.table.now.shape.transitions 0 }
+        requires { i < length self.now.listed.now.rows.now.states.now }
+        ensures { result ≡ first_open self.now.listed.now.table.now.bytes.now self.now.listed.now.table.now.shape self.now.listed.now.rows.now i self.now.listed.now.table.now.shape.transitions 0 }
     {
-        let state = self.rows.state(i);
-        (0..self.table.shape.transitions).find(|j| self.is_open(i, state, *j))
+        let state = self.listed.rows.state(i);
+        (0..self.listed.table.shape.transitions).find(|j| self.is_open(i, state, *j))
     }
 
+    // The lowest row with such a transition, and its lowest.
+    fn open_row(&self) -> Option<Open>
+        ensures { result ≡ first_open_row self.now.listed.now.table.now.bytes.now self.now.listed.now.table.now.shape self.now.listed.now.rows.now (length self.now.listed.now.rows.now.states.now) 0 }
+    {
+        (0..self.listed.rows.count()).find_map(|row| {
+            let transition = self.open_move(row)?;
+            Some(Open { row, transition })
+        })
+    }
+}
+
+impl Listed<'_> {
     // Looks at each row; none where the list is closed.
     pub fn open_row(&self) -> Option<Open>
         ensures { result ≡ first_open_row self.now.table.now.bytes.now self.now.table.now.shape self.now.rows.now (length self.now.rows.now.states.now) 0 }
     {
-        (0..self.rows.count()).find_map(|row| {
-            let transition = self.open_move(row)?;
-            Some(Open { row, transition })
-        })
+        let sources = sources_of(self.table);
+        let look = Look {
+            listed: self,
+            sources: &sources,
+        };
+        look.open_row()
     }
 }
