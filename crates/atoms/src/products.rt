@@ -21,13 +21,13 @@ pub fn contained(p: &[u16], q: &[u16]) -> bool
     let [b, q_rest @ ..] = q else {
         return false;
     };
-    if within(*a, *b) {
-        if is_star(*b) {
-            return contained(p_rest, q);
-        }
-        return contained(p_rest, q_rest);
+    if !within(*a, *b) {
+        return contained(p, q_rest);
     }
-    contained(p, q_rest)
+    if is_star(*b) {
+        return contained(p_rest, q);
+    }
+    contained(p_rest, q_rest)
 }
 
 // What is left of p after a receive of m: from the first atom that has m, past it if it is single. None where the receive is impossible.

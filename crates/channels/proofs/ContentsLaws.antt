@@ -6,6 +6,7 @@ use Rattle.std.proofs.lemmas.Bool.{cases_lt, cases_eq, cases_order}
 use Rattle.common.specs.Part.{part}
 use Rattle.common.proofs.ChoiceLaws.{lt-then, lt-else}
 use Rattle.common.proofs.PartLaws.{part_none, part-cons, part-snoc}
+use Rattle.meaning.specs.Words.{Word}
 use Rattle.meaning.specs.Systems.{Contents, put}
 use Rattle.meaning.proofs.PutLaws.{put_same, put_other}
 use Rattle.channels.specs.Contents.{head_of, tail_of, contents_in}
@@ -13,16 +14,16 @@ use Rattle.channels.specs.Contents.{head_of, tail_of, contents_in}
 -- ---- a part of a list after a store
 
 -- A store behind the part, or before it.
-part-behind : (f t p x : ℕ) (l : List ℕ) → t ≤ p → part f t (set l p x) ≡ part f t l
+pub part-behind : (f t p x : ℕ) (l : List ℕ) → t ≤ p → part f t (set l p x) ≡ part f t l
 unfolding part
 part-behind f t p x l a = ap (drop f) (take-set-le t l p x a)
 
-part-before : (f t p x : ℕ) (l : List ℕ) → p < f → part f t (set l p x) ≡ part f t l
+pub part-before : (f t p x : ℕ) (l : List ℕ) → p < f → part f t (set l p x) ≡ part f t l
 unfolding part
 part-before f t p x l a = elim (cases_lt p t) [ inl b ↦ ap (drop f) (take-set-lt t l p x b) ∙ drop-set-lt f (take t l) p x a | inr b ↦ part-behind f t p x l b ]
 
 -- A store at its end, and at the place before it.
-part_end : (f p t x : ℕ) (l : List ℕ) → p + 1 ≡ t → f ≤ p → p < length l → part f t (set l p x) ≡ part f p l ++ (x ∷ [])
+pub part_end : (f p t x : ℕ) (l : List ℕ) → p + 1 ≡ t → f ≤ p → p < length l → part f t (set l p x) ≡ part f p l ++ (x ∷ [])
 part_end f p t x l z a b =
     ap (λ (i : ℕ). part f i (set l p x)) (sym z) ∙ part-snoc f p (set l p x) a (rw (length-set l p x) b)
     ∙ ap (λ (y : ℕ). part f p (set l p x) ++ (y ∷ [])) (get_or-set_same l p x 0 b)
@@ -52,6 +53,14 @@ module _ (s e : List ℕ) (c : ℕ) where
 -- Contents are the same where they are the same in the 4 channels; past them both have nothing.
 contents-are : (s e : List ℕ) (f : Contents) → ((c : ℕ) → c < 4 → contents_in s e c ≡ f c) → ((c : ℕ) → 4 ≤ c → f c ≡ []) → contents_in s e ≡ f
 contents-are s e f n p = fun_ext (λ c. elim (cases_lt c 4) [ inl h ↦ n c h | inr h ↦ contents-past s e c h ∙ sym (p c h) ])
+
+-- Two memories whose contents differ at most at channel c, where the second has v.
+pub contents-put : (s e s' e' : List ℕ) (c : ℕ) (v : Word) → c < 4 → contents_in s' e' c ≡ v
+    → ((d : ℕ) → d < 4 → (d ≡ c → ⊥) → contents_in s' e' d ≡ contents_in s e d) → contents_in s' e' ≡ put (contents_in s e) c v
+contents-put s e s' e' c v l there others =
+    contents-are s' e' (put (contents_in s e) c v)
+    (λ d b. elim (cases_eq d c) [ inl y ↦ rw y (there ∙ sym (put_same _ c v)) | inr n ↦ others d b n ∙ sym (put_other _ c v d n) ])
+    (λ d b. put_other _ c v d (λ r. omega arith) ∙ contents-past s e d b)
 
 -- Where no channel has anything, all are empty.
 pub contents-empty : (s e : List ℕ) → ((c : ℕ) → c < 4 → tail_of e c ≤ head_of e c) → contents_in s e ≡ (λ c. [])
@@ -116,12 +125,8 @@ module _ (s e : List ℕ) (c : ℕ) (f : Placed s e) (l : c < 4) where
     contents-changed : (s' : List ℕ) → ((d : ℕ) → d < 4 → (d ≡ c → ⊥) → part (2048 * d + head_of e d) (2048 * d + tail_of e d) s' ≡ contents_in s e d)
         → contents_in s' e' ≡ put (contents_in s e) c (part (2048 * c + h) (2048 * c + t) s')
     contents-changed s' others =
-        contents-are s' e' after
-        (λ d b. contents-at s' e' d b ∙ moved-each (λ d h t. part (2048 * d + h) (2048 * d + t) s' ≡ after d) m (sym (put_same _ c _)) (λ d b n. others d b n ∙ sym (put_other _ c _ d n)) d b)
-        (λ d b. put_other _ c _ d (λ r. omega arith) ∙ contents-past s e d b)
-      where
-        after : Contents
-        after = put (contents_in s e) c (part (2048 * c + h) (2048 * c + t) s')
+        contents-put s e s' e' c _ l (contents-at s' e' c l ∙ rw (m.head, m.tail) refl)
+        (λ d b n. contents-at s' e' d b ∙ rw (m.heads d b n, m.tails d b n) (others d b n))
 
     -- The same store.
     pub contents-moved : contents_in s e' ≡ put (contents_in s e) c (part (2048 * c + h) (2048 * c + t) s)

@@ -12,6 +12,9 @@ use Rattle.replay.specs.declared.queues.Memory.{Memory}
 
 -- ---- memory in which each channel has had at most n messages
 
+pub queues-more : (n k : ℕ) (x : Memory) → Queues n x → n ≤ k → Queues k x
+queues-more n k x q h = record { room = q.room; pairs = q.pairs; order = q.order; few = λ c l. let f = q.few c l in omega arith }
+
 pub queues-empty : (x : Memory) → Queues 0 x → held x ≡ (λ c. [])
 queues-empty x q = contents-empty x.store x.ends (λ c l. let f = q.few c l in omega arith)
 
@@ -36,7 +39,7 @@ queues-moved x y c q l v r a b n w =
 
 module _ (x : Memory) where
   pub stays : (n : ℕ) → Queues n x → Queues (n + 1) x
-  stays n q = record { room = q.room; pairs = q.pairs; order = q.order; few = λ c l. let f = q.few c l in omega arith }
+  stays n q = queues-more n (n + 1) x q (omega arith)
 
   pub done-quiet : Done false quiet x x true
   unfolding operated

@@ -26,13 +26,13 @@ module _ (n : ℕ) (p q : ℕ → List ℕ) (c : ℕ) (same : each_contained c p
   unfolding each_contained
   head h = let z : c ≡ suc (c - 1) = omega arith in subst (λ (m : ℕ). each_contained m p q ≡ each_contained n p q) z same
 
-  channel-next : 0 < c → contained (p (c - 1)) (q (c - 1)) ≡ true → each_contained (c - 1) p q ≡ each_contained n p q
+  pub channel-next : 0 < c → contained (p (c - 1)) (q (c - 1)) ≡ true → each_contained (c - 1) p q ≡ each_contained n p q
   channel-next h e = true-then _ _ _ e refl ∙ head h
 
-  channel-stops : 0 < c → contained (p (c - 1)) (q (c - 1)) ≡ false → false ≡ each_contained n p q
+  pub channel-stops : 0 < c → contained (p (c - 1)) (q (c - 1)) ≡ false → false ≡ each_contained n p q
   channel-stops h e = true-else _ _ _ e refl ∙ head h
 
-  channels-end : c ≡ 0 → true ≡ each_contained n p q
+  pub channels-end : c ≡ 0 → true ≡ each_contained n p q
   unfolding each_contained
   channels-end z = sym (sym same ∙ ap (λ (m : ℕ). each_contained m p q) z)
 
@@ -61,13 +61,13 @@ module _ (n : ℕ) (row : ℕ → Row) (k : ℕ) (o : Row) (r : ℕ) where
     row-other h e = row-past h (sym (eq-else _ _ _ _ (λ q. e (sym q)) refl))
 
     -- The same state, and a channel that is not contained.
-    row-lacks : r < k → (row r).state ≡ o.state → each_contained n o.products (row r).products ≡ false
+    pub row-lacks : r < k → (row r).state ≡ o.state → each_contained n o.products (row r).products ≡ false
         → any_of (λ s. covers n s o) (rows_from row (k - (r + 1)) (r + 1)) ≡ covered_in n row k o
     unfolding covers
     row-lacks h e f = row-past h (sym (eq-then _ _ _ _ (sym e) (sym f)))
 
     -- The same state, and all channels are.
-    row-has : r < k → (row r).state ≡ o.state → each_contained n o.products (row r).products ≡ true → true ≡ covered_in n row k o
+    pub row-has : r < k → (row r).state ≡ o.state → each_contained n o.products (row r).products ≡ true → true ≡ covered_in n row k o
     unfolding covers
     row-has h e f = true-then _ _ _ (sym (eq-then _ _ _ _ (sym e) (sym f))) refl ∙ row-head h
 

@@ -51,8 +51,7 @@ fn channel_contained<R: Rows>(rows: &R, r: usize, c: usize, outcome: &Outcome) -
 }
 
 // One of the rows contains the outcome, by the first `channels` channels: the first that does ends the look. Labelled loops: docs/DECISIONS.md (Forms) has
-// this place for them. Not inlined, so that its loops keep in registers what they read.
-#[inline(never)]
+// this place for them. Inner.
 pub fn is_covered<R: Rows>(rows: &R, channels: usize, outcome: &Outcome) -> bool
     requires { (outcome.now.source_row < R.count rows.now) × (channels ≤ R.channels rows.now) }
     ensures { result ≡ covered_in channels (R.row_at rows.now) (R.count rows.now) (outcome_row (R.row_at rows.now) outcome.now) }

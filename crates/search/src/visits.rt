@@ -4,7 +4,7 @@
 ghost use Rattle.std.specs.Prelude.{◌≡◌, ◌<◌, ◌≤◌, length};
 ghost use Rattle.std.proofs.Math.Option.{some};
 ghost use Rattle.table.specs.Systems.{system_of};
-ghost use Rattle.rows.specs.Look.{outcome_row};
+ghost use Rattle.rows.specs.Look.{covered_in, outcome_row};
 ghost use Rattle.work.specs.Room.{room_of};
 ghost use Rattle.findings.specs.Search.{outcome_at};
 ghost use Rattle.outcome.specs.Look.{row_at};
@@ -24,6 +24,15 @@ pub enum Stop {
     Unsafe,
     AtomsFull,
     RowsFull,
+}
+
+// One of the rows made contains the outcome. Not inlined: in the search's one function the loops of the look would keep on the stack what they read. Inner.
+#[inline(never)]
+fn is_made(made: &WorkRows, channels: usize, outcome: &Outcome) -> bool
+    requires { (outcome.now.source_row < made.now.count) × (channels ≤ 4) }
+    ensures { result ≡ covered_in channels (row_at made.now.words.now) made.now.count (outcome_row (row_at made.now.words.now) outcome.now) }
+{
+    is_covered(made, channels, outcome)
 }
 
 // The tests of the outcome of a transition. It is bad; contained in a row; too wide; there is no room; else it is appended. Answers how many rows there
@@ -47,7 +56,7 @@ fn test_outcome(
         words: w,
         count: rows,
     };
-    if is_covered(&made, table.shape.channels, outcome) {
+    if is_made(&made, table.shape.channels, outcome) {
         return Ok(rows);
     }
     if 24 < outcome.product.len() {

@@ -10,7 +10,7 @@ use Rattle.writer.proofs.ManyLaws.{up_to}
 
 -- ---- bytes, and a number
 
-high_byte : (n : ℕ) → n < 65536 → n / 256 < 256
+pub high_byte : (n : ℕ) → n < 65536 → n / 256 < 256
 high_byte n h = (div-lt_iff_lt-mul {k = 256} {x = n} {y = 256} (omega arith)).1 h
 
 -- A number's two bytes.

@@ -9,5 +9,5 @@ returns c =
     let t = c.args.self.now.listed.now.table.now in
     let m = c.args.self.now.listed.now.rows.now in
     let n = length m.states.now in
-    mapped-first (open_in_row t.bytes.now t.shape m) _ _ _ c.find_map.result c.find_map.ensures.runs (YieldsList-from_range 0 c.count.result n refl (omega (arith, c.count.ensures))) (λ x r q k. search (rules, tests))
+    mapped-first (open_in_row t.bytes.now t.shape m) _ _ _ c.find_map.result c.find_map.ensures.runs (YieldsList-from_range 0 _ n refl (omega (arith, c.count.ensures))) (λ x r q k. search (rules, tests))
     ∙ open-rows t.bytes.now t.shape m n 0
