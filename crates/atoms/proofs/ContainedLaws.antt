@@ -1,9 +1,10 @@
 -- Containment of lists of masks is containment of their words.
-use Rattle.std.proofs.Common.{◌≡◌, refl, sym, ap, ◌∙◌, Bool, true, false, ◌⊎◌, inl, inr, ◌↔◌, List, [], ◌∷◌, ℕ, ◌-◌, ◌<◌, ◌≤◌, arith, length, get_or, take, drop}
+use Rattle.std.proofs.Common.{◌≡◌, refl, sym, ◌∙◌, Bool, true, false, ◌⊎◌, inl, inr, ◌↔◌, List, [], ◌∷◌, ℕ, ◌+◌, ◌<◌, ◌≤◌, arith, length, get_or}
 use mathlib.Core.Logic.Iff
-use Rattle.std.proofs.lemmas.Slice.{first_rest}
+use Rattle.common.specs.Part.{part}
 use Rattle.common.proofs.BoolLaws.{either, clash}
 use Rattle.common.proofs.ChoiceLaws.{true-then, true-else}
+use Rattle.common.proofs.PartLaws.{part_none, part-cons}
 use Rattle.meaning.specs.Products.{Contained}
 use Rattle.meaning.proofs.ContainmentLaws.{contained-none, contained-nil, contained-star, contained-single, contained-beyond}
 use Rattle.atoms.specs.Masks.{star, sub, IsAtom, Atoms}
@@ -60,38 +61,26 @@ pub contained-iff : (p q : List ℕ) → Atoms p → Atoms q → (contained p q 
 contained-iff [] q pp pq = (λ e. contained-none (product q), λ f. sym (none_here q))
 contained-iff (a ∷ p) q pp pq = heads-iff a p q pp.0 pq (λ r pr. contained-iff p r pp.1 pr)
 
--- ---- the steps over slices, as the code takes them: where there is a head, what is left is read as `&p[1..]`
+-- ---- the steps over ranges, as the code takes them
 
-pub empty-here : (p q : List ℕ) → length p < 1 → true ≡ contained p q
-empty-here [] q h = none_here q
-empty-here (a ∷ p) q h = absurd (omega arith)
+pub range_none : (p q : List ℕ) (f t : ℕ) → f ≡ t → true ≡ contained (part f t p) q
+range_none p q f t e = rw (part_none f t p (omega arith)) (none_here q)
 
-abbrev rest : List ℕ → List ℕ
-rest p = take (length p - 1) (drop 1 p)
+module _ (p q : List ℕ) (pa pe qa qe : ℕ) (hp : pa < pe) (lp : pe ≤ length p) where
+  pub range-there : qa ≡ qe → false ≡ contained (part pa pe p) (part qa qe q)
+  range-there e = rw (part_none qa qe q (omega arith), part-cons pa pe p hp lp) (none-there _ _)
 
-split-rest : (p : List ℕ) → 1 ≤ length p → get_or p 0 0 ∷ rest p ≡ p
-split-rest p h = sym (first_rest p 0 (omega arith))
+  module _ (hq : qa < qe) (lq : qe ≤ length q) {r : Bool} where
+    pub range-drop-there : sub (get_or p pa 0) (get_or q qa 0) ≡ false → r ≡ contained (part pa pe p) (part (qa + 1) qe q) → r ≡ contained (part pa pe p) (part qa qe q)
+    range-drop-there x e = e ∙ rw (part-cons qa qe q hq lq, part-cons pa pe p hp lp) (drop-there _ _ _ _ x)
 
-module _ (p q : List ℕ) (hp : 1 ≤ length p) where
-  pub empty-there : length q < 1 → false ≡ contained p q
-  empty-there h = rw (← split-rest p hp, short q h) (none-there _ _)
-    where
-      short : (q : List ℕ) → length q < 1 → q ≡ []
-      short [] h = refl
-      short (b ∷ q) h = absurd (omega arith)
+    pub range-drop-here : sub (get_or p pa 0) (get_or q qa 0) ≡ true → star (get_or q qa 0) ≡ true → r ≡ contained (part (pa + 1) pe p) (part qa qe q)
+        → r ≡ contained (part pa pe p) (part qa qe q)
+    range-drop-here x y e = e ∙ rw (part-cons qa qe q hq lq, part-cons pa pe p hp lp) (drop_here _ _ _ _ x y)
 
-  module _ (hq : 1 ≤ length q) where
-    heads : contained (get_or p 0 0 ∷ rest p) (get_or q 0 0 ∷ rest q) ≡ contained p q
-    heads = ap (λ (l : List ℕ). contained l (get_or q 0 0 ∷ rest q)) (split-rest p hp) ∙ ap (contained p) (split-rest q hq)
-
-    pub rest-there : {r : Bool} → sub (get_or p 0 0) (get_or q 0 0) ≡ false → r ≡ contained p (rest q) → r ≡ contained p q
-    rest-there x e = e ∙ ap (λ (l : List ℕ). contained l (rest q)) (sym (split-rest p hp)) ∙ drop-there _ _ _ _ x ∙ heads
-
-    pub rest-here : {r : Bool} → sub (get_or p 0 0) (get_or q 0 0) ≡ true → star (get_or q 0 0) ≡ true → r ≡ contained (rest p) q → r ≡ contained p q
-    rest-here x y e = e ∙ ap (contained (rest p)) (sym (split-rest q hq)) ∙ drop_here _ _ _ _ x y ∙ heads
-
-    pub rest-both : {r : Bool} → sub (get_or p 0 0) (get_or q 0 0) ≡ true → star (get_or q 0 0) ≡ false → r ≡ contained (rest p) (rest q) → r ≡ contained p q
-    rest-both x y e = e ∙ drop-both _ _ _ _ x y ∙ heads
+    pub range-drop-both : sub (get_or p pa 0) (get_or q qa 0) ≡ true → star (get_or q qa 0) ≡ false → r ≡ contained (part (pa + 1) pe p) (part (qa + 1) qe q)
+        → r ≡ contained (part pa pe p) (part qa qe q)
+    range-drop-both x y e = e ∙ rw (part-cons qa qe q hq lq, part-cons pa pe p hp lp) (drop-both _ _ _ _ x y)
 
 -- ---- a product contains itself, by the test alone
 
@@ -122,4 +111,4 @@ contained-self (a ∷ p) = go (contained-self p) (either (star a))
     go ih (inl y) = sym (drop_here a a p p (sub_self a) y) ∙ contained-wider p a p ih
     go ih (inr y) = sym (drop-both a a p p (sub_self a) y) ∙ ih
 
-pub ruleset head_tells = (empty-here, empty-there, rest-here, rest-there, rest-both)
+pub ruleset head_tells = (range_none, range-there, range-drop-there, range-drop-here, range-drop-both)
